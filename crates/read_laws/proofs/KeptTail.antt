@@ -81,7 +81,7 @@ entries_found objects schema version (entry ∷ entries) (first ∷ commits) kep
 -- ---- commits that keep what was there
 
 -- a group has no action of another kind
-none_of_group : {A : Type 0} (tells : actions.Action → Option A) → ((action : actions.Action) → (is_some (txn_in action) || is_some (add_in action)) ≡ true → tells action ≡ None)
+pub none_of_group : {A : Type 0} (tells : actions.Action → Option A) → ((action : actions.Action) → (is_some (txn_in action) || is_some (add_in action)) ≡ true → tells action ≡ None)
     → (beside : List actions.Action) → AreTxnsAndAdds beside → filter_map tells beside ≡ []
 none_of_group tells silent [] only = refl
 none_of_group tells silent (action ∷ beside) only =
@@ -93,7 +93,7 @@ no_remove (txn t) is = refl
 no_remove (add a) is = refl
 no_remove _ is = absurd cc
 
-no_meta_data : (action : actions.Action) → (is_some (txn_in action) || is_some (add_in action)) ≡ true → meta_data_in action ≡ None
+pub no_meta_data : (action : actions.Action) → (is_some (txn_in action) || is_some (add_in action)) ≡ true → meta_data_in action ≡ None
 no_meta_data (txn t) is = refl
 no_meta_data (add a) is = refl
 no_meta_data _ is = absurd cc
@@ -116,7 +116,7 @@ remove_none objects schema (entry ∷ entries) [] made = absurd made
 remove_none objects schema (entry ∷ entries) (first ∷ commits) made = (removes_none schema entry first made.0, remove_none objects schema entries commits made.2)
 
 -- what metadata a commit has stands beside what tells only of it
-same_meta_data : (made : List actions.Action) → last_of (filter_map meta_data_in made) ≡ last_of (filter_map meta_data_in (without_commit_info made))
+pub same_meta_data : (made : List actions.Action) → last_of (filter_map meta_data_in made) ≡ last_of (filter_map meta_data_in (without_commit_info made))
 same_meta_data made = ap (λ (ms : List MetaDataAction). last_of ms) (sym (told-without_commit_info meta_data_in (λ d. refl) made))
 
 -- but for the creation none has a metadata

@@ -39,7 +39,7 @@ count_kept objects schema entries kept = count_is objects (length entries) kept.
 -- ---- what stands at each
 
 -- from a version on, the commits of the entries
-commits_stand : (objects : Objects) (schema : Tree) (version : ℕ) (entries : List Entry) (kept : KeptFrom objects schema version entries)
+pub commits_stand : (objects : Objects) (schema : Tree) (version : ℕ) (entries : List Entry) (kept : KeptFrom objects schema version entries)
     → versions_from (length entries) version objects ≡ map commit (made_of objects schema version entries kept)
 unfolding versions_from
 commits_stand objects schema version [] kept = refl

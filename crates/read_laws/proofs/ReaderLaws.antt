@@ -13,9 +13,9 @@ use Rattle.table_model.specs.Table.{Entry}
 use Rattle.table_model.specs.declared.reading.Offset.{Offset}
 use Rattle.table_model.proofs.Callers.{stays}
 use Rattle.source_core.specs.TableSchema.{Schema}
-use Rattle.source_core.specs.SourceSessions.{SourceJob, read_told, read_view}
+use Rattle.source_core.specs.SourceSessions.{GoesBySchema, SourceJob, read_told, read_view}
 use Rattle.source_core.specs.TailFaults.{ReadGives, read_refusal_view, says}
-use Rattle.source_core.specs.TailViews.{handed_view}
+use Rattle.source_core.specs.TailViews.{handed_view, table_schema_view}
 use Rattle.source_core.specs.Tailing as tails
 use Rattle.source_core.specs.Tailing.{ReadRefusal, ReadRows, handed_by, read_by, schema_at, versions_at}
 use Rattle.log_rows.specs.declared.read_state.ReadRows as code
@@ -25,6 +25,7 @@ use Rattle.log_reading.specs.InForce.{SchemaText}
 use Rattle.read_laws.proofs.KeptTails.{IsRead, kept_reads}
 use Rattle.read_laws.specs.Readers.{Follow, IsReadAt, MayRefuse, MayTellOfTable, OneRead, job_at, next_of_all, next_told, rows_of_all, rows_told, table_of_all}
 use Rattle.read_laws.proofs.KeptLaws.{kept_part}
+use Rattle.read_laws.proofs.KeptSchema.{schema_kept}
 
 -- what is told with the schema is told without it
 pair_told : (told : Result SchemaText ReadRefusal) (rest : SchemaText → Result ReadRows ReadRefusal) (schema : Tree) (handed : ReadRows)
@@ -126,15 +127,17 @@ module _ (max : ℕ) (offset : Offset) (entries : List Entry) where
   may_refuse (tails.bad_log version) said is goes = goes is
 
 -- What a read may tell whose talk shows a store that keeps a table.
-pub read_may : (schema : Schema) (offset : Offset) (entries : List Entry) (r : OneRead) → IsReadAt schema offset entries r → MayTellOfTable r.max offset entries r.end.answer
-read_may schema offset entries r is = by_answer r.end.answer (is.told.told r.listed is.known is.shown)
+pub read_may : (schema : Schema) (offset : Offset) (entries : List Entry) (r : OneRead) → IsReadAt schema offset entries r → MayTellOfTable schema r.max offset entries r.end.answer
+read_may schema offset entries r is = by_answer r.end.answer (is.told.told r.listed is.known is.shown) (is.told.goes_by r.listed is.known is.shown)
   where
     alike : read_by r.use_checkpoints r.listed r.max offset ≡ read_by false r.listed r.max offset
     alike = read_alike r.use_checkpoints r.listed is.restores r.max offset
 
-    by_answer : (answer : Result code.ReadRows TailFault) → ReadGives read_view answer (read_told (job_at offset r) r.listed) → MayTellOfTable r.max offset entries answer
-    by_answer (Ok handed) gives = kept_part r.listed schema entries r.max offset (handed_view handed) is.keeps (sym alike ∙ told_without (job_at offset r) r.listed _ (handed_view handed) gives)
-    by_answer (Err fault) gives =
+    by_answer : (answer : Result code.ReadRows TailFault) → ReadGives read_view answer (read_told (job_at offset r) r.listed) → GoesBySchema (job_at offset r) r.listed answer → MayTellOfTable schema r.max offset entries answer
+    by_answer (Ok handed) gives goes =
+        let part = kept_part r.listed schema entries r.max offset (handed_view handed) is.keeps (sym alike ∙ told_without (job_at offset r) r.listed _ (handed_view handed) gives) in
+        (schema_kept r.listed schema entries is.keeps r.use_checkpoints offset (table_schema_view handed.schema) is.restores goes, part.0, part.1)
+    by_answer (Err fault) gives goes =
         may_refuse r.max offset entries (read_refusal_view fault) (read_told (job_at offset r) r.listed) gives (λ said.
         answer_refused r.max offset entries (read r.max offset entries) (read_by false r.listed r.max offset) (read_refusal_view fault) (is_beyond offset entries) (is_offset offset entries) refl refl refl
         (kept_reads r.listed schema entries is.keeps r.max offset)

@@ -6,6 +6,7 @@ use Rattle.session_core.specs.Shown.{Shows}
 use Rattle.session_core.specs.Talks.{Talk, Bears}
 use Rattle.row_core.specs.Rows.{Row}
 use Rattle.row_core.specs.Views.{row_views}
+use Rattle.schema_tree.specs.Schema.{tree_of}
 use Rattle.table_log.specs.Restoring.{RestoresWell}
 use Rattle.table_model.specs.Table.{Entry}
 use Rattle.table_model.specs.declared.reading.Offset.{Offset}
@@ -64,11 +65,12 @@ MayRefuse offset entries lost = Unit {0}
 MayRefuse offset entries memory = Unit {0}
 MayRefuse offset entries refusal = ⊥
 
--- What a read of a table may tell: a part of it, with as many rows as it was to hand out or up to its end; or such a refusal.
-abbrev pub MayTellOfTable : (max : ℕ) → (offset : Offset) → List Entry → Result code.ReadRows TailFault → Type 0
-MayTellOfTable max offset entries (Ok handed) =
-    IsPart max offset (row_views handed.rows.items) (offset_view handed.next) entries × MayEnd false max (row_views handed.rows.items) (offset_view handed.next) entries
-MayTellOfTable max offset entries (Err fault) = MayRefuse offset entries (read_refusal_view fault)
+-- What a read of a table of a schema may tell: by that schema a part of it, with as many rows as it was to hand out or up to its end; or such
+-- a refusal.
+abbrev pub MayTellOfTable : Schema → (max : ℕ) → (offset : Offset) → List Entry → Result code.ReadRows TailFault → Type 0
+MayTellOfTable schema max offset entries (Ok handed) =
+    (tree_of handed.schema.schema ≡ schema) × IsPart max offset (row_views handed.rows.items) (offset_view handed.next) entries × MayEnd false max (row_views handed.rows.items) (offset_view handed.next) entries
+MayTellOfTable schema max offset entries (Err fault) = MayRefuse offset entries (read_refusal_view fault)
 
 -- Reads that follow one another from an offset in a table: each next one begins where the one before ended, and its table is that one grown.
 abbrev pub Follow : Schema → List OneRead → Offset → List Entry → Type 0

@@ -31,12 +31,12 @@ pub fn a_sound_store_keeps_its_table()
     ensures { (objects : Objects) (sound : IsSound objects) → sound.entries ≢ [] → HasReadableFiles objects sound.entries → KeepsTable objects sound.schema sound.entries }
 {}
 
-/// What a read as a session may tell, whose talk shows a store that keeps a table: the part of the table from its
-/// offset on, which ends with as many rows as it was to hand out, or at the start of the version behind those that were
-/// listed; or that the offset is behind the log, or in no file of its version. From an offset of the table it is
-/// refused only where a call was lost or memory ran out.
+/// What a read as a session may tell, whose talk shows a store that keeps a table: by the table's schema the part of
+/// the table from its offset on, which ends with as many rows as it was to hand out, or at the start of the version
+/// behind those that were listed; or that the offset is behind the log, or in no file of its version. From an offset of
+/// the table it is refused only where a call was lost or memory ran out.
 pub fn what_a_read_may()
-    ensures { (schema : Schema) (offset : Offset) (entries : List Entry) (r : OneRead) → IsReadAt schema offset entries r → MayTellOfTable r.max offset entries r.end.answer }
+    ensures { (schema : Schema) (offset : Offset) (entries : List Entry) (r : OneRead) → IsReadAt schema offset entries r → MayTellOfTable schema r.max offset entries r.end.answer }
 {}
 
 /// A store that keeps a table has all files that its commits bring, so that what a read is shown is the store as it was

@@ -10,11 +10,12 @@ use Rattle.schema_tree.specs.Tree.{Tree}
 use Rattle.table_log.specs.Counts.{commit_count, count_in}
 use Rattle.table_log.specs.Restoring.{RestoresWell}
 use Rattle.table_log.specs.Versions.{Version, versions_from, versions_of}
+use Rattle.table_model.specs.Lawful.{BeginsWithCreation}
 use Rattle.table_model.specs.Table.{Entry}
 use Rattle.table_store.specs.Holds.{Holds}
 use Rattle.table_store.specs.Schema.{Schema}
 use Rattle.table_store.specs.Sound.{IsSound}
-use Rattle.table_store.proofs.HoldingGrown.{front}
+use Rattle.table_store.proofs.HoldingGrown.{front, same_schema}
 use Rattle.commit_core.specs.SoundStores.{IsSoundStore}
 use Rattle.commit_core.proofs.Callers.{count_held}
 use Rattle.log_reading.specs.FromCheckpoints.{Start, first_read, from_version, looked_at, start_if}
@@ -120,18 +121,24 @@ module _ (objects : Objects) (schema : Schema) (entries : List Entry) (sound : I
     restores : RestoresWell job.use_checkpoints listed
     restores = λ uses name version bytes named stands asked_so. was.sound.checkpoints name version bytes named stands tt
 
-    of_table : (own : List Entry) → table.entries ≡ own → TellsOfListed own job end.answer
+    -- where it had an entry, it is of the same schema
+    schema_is : (first : Entry) (rest : List Entry) → table.entries ≡ first ∷ rest → table.schema ≡ schema
+    schema_is first rest is =
+        same_schema listed objects table.schema was.grown schema first rest entries (subst BeginsWithCreation is table.lawful.begins) (subst (Holds listed table.schema) is table.holds) holds
+
+    of_table : (own : List Entry) → table.entries ≡ own → TellsOfListed schema own job end.answer
     of_table [] is =
         let none : commit_count listed ≡ 0 = count_held listed table table.schema table.entries table.holds ∙ ap length is in
         none_said end.answer (subst (ReadGives read_view end.answer) (none_told job listed none) (ends.told listed was.earlier was.shown))
     of_table (first ∷ rest) is =
         let some : table.entries ≢ [] = λ none. let wrong = sym is ∙ none in absurd cc in
         let kept : KeepsTable listed table.schema (first ∷ rest) = subst (KeepsTable listed table.schema) is (sound_kept listed table some (was.readable table.schema table.entries table.holds)) in
-        read_may table.schema job.place (first ∷ rest) (record { max = job.max; use_checkpoints = job.use_checkpoints; known = job.known; before = before; talk = talk; end = end; listed = listed; more = [] })
-        (record { known = was.earlier; shown = was.shown; told = ends; restores = restores; keeps = kept })
+        let same : KeepsTable listed schema (first ∷ rest) = subst (λ (t : Schema). KeepsTable listed t (first ∷ rest)) (schema_is first rest is) kept in
+        read_may schema job.place (first ∷ rest) (record { max = job.max; use_checkpoints = job.use_checkpoints; known = job.known; before = before; talk = talk; end = end; listed = listed; more = [] })
+        (record { known = was.earlier; shown = was.shown; told = ends; restores = restores; keeps = same })
 
-    told_of_listed : TellsOfListed (take (next_version talk) entries) job end.answer
-    told_of_listed = subst (λ (es : List Entry). TellsOfListed es job end.answer) (sym front_is) (of_table table.entries refl)
+    told_of_listed : TellsOfListed schema (take (next_version talk) entries) job end.answer
+    told_of_listed = subst (λ (es : List Entry). TellsOfListed schema es job end.answer) (sym front_is) (of_table table.entries refl)
 
-  pub read_tells : is_lost_read end ≡ ends_lost talk → MayTellOfRead objects entries job before talk end.answer
+  pub read_tells : is_lost_read end ≡ ends_lost talk → MayTellOfRead objects schema entries job before talk end.answer
   read_tells same = record { lost = lost_told same; told = told_of_listed }

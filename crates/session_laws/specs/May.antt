@@ -47,7 +47,7 @@ MayTell objects schema entries (creates job) before talk (creation result) = May
 MayTell objects schema entries (loads job) before talk (load result) = MayTellOfLoad objects talk result
 MayTell objects schema entries (checkpoints job) before talk (checkpoint end) = MayTellOfCheckpoint objects talk end.known end.answer
 MayTell objects schema entries (streams job) before talk (stream end) = MayTellOfStream objects schema entries job talk end.answer
-MayTell objects schema entries (reads job) before talk (read end) = MayTellOfRead objects entries job before talk end.answer
+MayTell objects schema entries (reads job) before talk (read end) = MayTellOfRead objects schema entries job before talk end.answer
 MayTell objects schema entries job before talk outcome = ⊥
 
 -- it tells that the commit of this version was put

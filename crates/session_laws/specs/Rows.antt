@@ -256,15 +256,15 @@ TellsOfNone (Err read_faults.Lost) = Unit {0}
 TellsOfNone (Err read_faults.Memory) = Unit {0}
 TellsOfNone answer = ⊥
 
--- Of the versions that were listed it tells a part from its offset on: as many rows as it was to hand out, or those up to the version
+-- Of the versions that were listed it tells, by the table's schema, a part from its offset on: as many rows as it was to hand out, or those up to the version
 -- that came next then; or that its offset is past their end, or in no file of its version.
-abbrev pub TellsOfListed : List Entry → SourceJob → Result ReadRows TailFault → Type 0
-TellsOfListed [] job answer = TellsOfNone answer
-TellsOfListed (first ∷ rest) job answer = MayTellOfTable job.max job.place (first ∷ rest) answer
+abbrev pub TellsOfListed : Schema → List Entry → SourceJob → Result ReadRows TailFault → Type 0
+TellsOfListed schema [] job answer = TellsOfNone answer
+TellsOfListed schema (first ∷ rest) job answer = MayTellOfTable schema job.max job.place (first ∷ rest) answer
 
 -- That a call was lost is told only right behind one that was. What else is told is so of the table's first versions, as many as were listed,
 -- where the talk shows a store as it stood then. Of other talks, by which what was listed isn't there, nothing is said: they aren't a
 -- store's that only grows.
-pub record MayTellOfRead (objects : Objects) (entries : List Entry) (job : SourceJob) (before talk : Talk) (answer : Result ReadRows TailFault) : Type 0 where
+pub record MayTellOfRead (objects : Objects) (schema : Schema) (entries : List Entry) (job : SourceJob) (before talk : Talk) (answer : Result ReadRows TailFault) : Type 0 where
   pub lost : answer ≡ Err read_faults.Lost → ends_lost talk ≡ true
-  pub told : (listed : Objects) → WasListed objects before talk listed → TellsOfListed (take (next_version talk) entries) job answer
+  pub told : (listed : Objects) → WasListed objects before talk listed → TellsOfListed schema (take (next_version talk) entries) job answer

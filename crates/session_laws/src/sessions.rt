@@ -63,15 +63,15 @@ pub fn what_a_stream_may()
 
 /// A read of rows asks for lists and gets. That a call was lost it tells only right behind one that was. Where its talk
 /// shows a store as it stood when the names were listed, which is a sound one whose files can be read and has grown
-/// since, it tells a part of the table's versions that were listed: its rows from the offset on, which end with as many
-/// as it was to hand out, or at the start of the version that came next then; or that the offset is past their end, or
-/// in no file of its version; and of a log without versions that version 0 is missing. No other refusal comes there,
-/// but for want of memory.
+/// since, it tells by the table's schema a part of its versions that were listed: the rows from the offset on, which
+/// end with as many as it was to hand out, or at the start of the version that came next then; or that the offset is
+/// past their end, or in no file of its version; and of a log without versions that version 0 is missing. No other
+/// refusal comes there, but for want of memory.
 pub fn what_a_read_may()
     ensures asks { (objects : Objects) (schema : Schema) (entries : List Entry) (job : SourceJob) (before talk : Talk) (asked : Asked) → BearsSession objects schema entries (reads job) before talk
         → SourceAsks job before talk asked → MayAsk objects schema (reads job) talk asked }
     ensures tells { (objects : Objects) (schema : Schema) (entries : List Entry) (job : SourceJob) (before talk : Talk) (end : ReadEnd) → BearsSession objects schema entries (reads job) before talk
-        → Does (reads job) before talk (tells (read end)) → MayTellOfRead objects entries job before talk end.answer }
+        → Does (reads job) before talk (tells (read end)) → MayTellOfRead objects schema entries job before talk end.answer }
 {}
 
 /// What any session does next it may do, in every sound store that bears its talk. Right behind a put that created its

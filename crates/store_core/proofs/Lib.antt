@@ -5,4 +5,5 @@ mod FlightLemmas
 mod NameLemmas
 pub mod Placing
 mod Trees
+mod TwelveDigits
 pub mod TwentyDigits

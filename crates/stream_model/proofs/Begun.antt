@@ -31,10 +31,12 @@ pub told_begun : (schema : Schema) (entries : List Entry) (job : SinkJob) (load 
 told_begun schema entries job load answer told = (told.0, batch_begun schema job load told.0 told.1, told.2)
 
 -- and what a read hands out, and tells of what it listed
-pub part_begun : (entries : List Entry) (job : SourceJob) (known : List ℕ) (answer : Result ReadRows TailFault) → IsPartOfTable entries (record job { known = known }) answer → IsPartOfTable entries job answer
-part_begun entries job known (Ok handed) part = part
-part_begun entries job known (Err fault) part = tt
+pub part_begun : (schema : Schema) (entries : List Entry) (job : SourceJob) (known : List ℕ) (answer : Result ReadRows TailFault) → IsPartOfTable schema entries (record job { known = known }) answer → IsPartOfTable schema entries job answer
+part_begun schema [] job known (Ok handed) part = part
+part_begun schema (first ∷ rest) job known (Ok handed) part = part
+part_begun schema entries job known (Err fault) part = tt
 
-pub listed_begun : (entries : List Entry) (job : SourceJob) (known : List ℕ) (answer : Result ReadRows TailFault) → TellsOfListed entries (record job { known = known }) answer → TellsOfListed entries job answer
-listed_begun [] job known answer told = told
-listed_begun (first ∷ rest) job known answer told = told
+pub listed_begun : (schema : Schema) (entries : List Entry) (job : SourceJob) (known : List ℕ) (answer : Result ReadRows TailFault) → TellsOfListed schema entries (record job { known = known }) answer → TellsOfListed schema entries job answer
+listed_begun schema [] job known answer told = told
+listed_begun schema (first ∷ rest) job known (Ok handed) told = told
+listed_begun schema (first ∷ rest) job known (Err fault) told = told

@@ -1,5 +1,5 @@
 -- What is so of each world, and stays so by more events and by more objects.
-use Rattle.std.proofs.Common.{◌≡◌, ℕ, List, [], ◌∷◌, ◌++◌, Option, Some, Contains, sym, subst}
+use Rattle.std.proofs.Common.{◌≡◌, ◌∙◌, ℕ, List, [], ◌∷◌, ◌++◌, Option, Some, Contains, sym, subst}
 use Rattle.std.specs.Prelude.{Result, Ok, Err}
 use Rattle.outcomes.specs.Bytes.{IsBytes}
 use Rattle.store_core.specs.Calls.{Flight}
@@ -72,9 +72,9 @@ AreGoodActors events objects actors = (name : ℕ) (actor : Actor) → actors na
 abbrev pub IsToldSo : Objects → List (Job × Outcome) → Type 0
 IsToldSo objects outs = (job : SinkJob) (end : SinkEnd) → Contains outs (streams job, stream end) → (schema : Schema) (entries : List Entry) → Holds objects schema entries → IsSoOf schema entries job end.answer
 
--- what reads handed out are parts of it
+-- what reads handed out are parts of it, by its schema
 abbrev pub AreReadSo : Objects → List (Job × Outcome) → Type 0
-AreReadSo objects outs = (job : SourceJob) (end : ReadEnd) → Contains outs (reads job, read end) → (schema : Schema) (entries : List Entry) → Holds objects schema entries → IsPartOfTable entries job end.answer
+AreReadSo objects outs = (job : SourceJob) (end : ReadEnd) → Contains outs (reads job, read end) → (schema : Schema) (entries : List Entry) → Holds objects schema entries → IsPartOfTable schema entries job end.answer
 
 -- each job that an outcome was told of was handed in
 abbrev pub AreHandedIn : List Event → List (Job × Outcome) → Type 0
@@ -204,11 +204,17 @@ module _ (laws : AreLaws) (objects more : Objects) (sound : IsSound objects) (st
   pub told_lasts : (outs : List (Job × Outcome)) → IsToldSo objects outs → IsToldSo more outs
   told_lasts outs told = λ job end has schema entries held. so_lasts schema entries held job end.answer (told job end has sound.schema sound.entries sound.holds)
 
-  part_lasts : (schema : Schema) (entries : List Entry) → Holds more schema entries → (job : SourceJob) (answer : Result ReadRows TailFault) → IsPartOfTable sound.entries job answer → IsPartOfTable entries job answer
+  part_lasts : (schema : Schema) (entries : List Entry) → Holds more schema entries → (job : SourceJob) (answer : Result ReadRows TailFault) → IsPartOfTable sound.schema sound.entries job answer → IsPartOfTable schema entries job answer
   part_lasts schema entries held job (Err fault) part = tt
-  part_lasts schema entries held job (Ok out) part =
-      let later = front objects more sound.schema grown schema sound.entries entries sound.lawful.begins sound.holds held in
-      subst (λ (es : List Entry). IsPartOfTable es job (Ok out)) (sym later.1) (laws.part_stays job.max job.place (offset_view out.next) sound.entries later.0 (row_views out.rows.items) part)
+  part_lasts schema entries held job (Ok out) part = by_entries sound.entries sound.holds sound.lawful.begins part
+    where
+      -- a table that rows were handed out of has a version, and so its schema stays
+      by_entries : (own : List Entry) → Holds objects sound.schema own → BeginsWithCreation own → IsPartOfTable sound.schema own job (Ok out) → IsPartOfTable schema entries job (Ok out)
+      by_entries [] holds begins none = absurd none
+      by_entries (first ∷ rest) holds begins own =
+          let same : sound.schema ≡ schema = same_schema objects more sound.schema grown schema first rest entries begins holds held in
+          let later = front objects more sound.schema grown schema (first ∷ rest) entries begins holds held in
+          subst (λ (es : List Entry). IsPartOfTable schema es job (Ok out)) (sym later.1) (own.0 ∙ same, laws.part_stays job.max job.place (offset_view out.next) (first ∷ rest) later.0 (row_views out.rows.items) own.1)
 
   pub parts_last : (outs : List (Job × Outcome)) → AreReadSo objects outs → AreReadSo more outs
   parts_last outs parts = λ job end has schema entries held. part_lasts schema entries held job end.answer (parts job end has sound.schema sound.entries sound.holds)

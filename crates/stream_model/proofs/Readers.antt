@@ -1,4 +1,4 @@
--- What reads hand out in a world: parts of the table, and readers that resume their rows up to where they came.
+-- What reads hand out in a world: parts of the table by its schema, and readers that resume their rows up to where they came.
 use Rattle.std.proofs.Common.{◌≡◌, ◌⊎◌, ◌∙◌, ◌+◌, ℕ, List, [], ◌∷◌, ◌++◌, Some, Contains, true, inl, inr, refl, sym, ap, subst, append-nil, arith}
 use Rattle.std.specs.Prelude.{Result, Ok, Err, drop, take}
 use Rattle.std.proofs.lemmas.List.{take-append-drop}
@@ -87,28 +87,33 @@ was_listed events objects job before now names lists seen =
     (was.listed, record { sound = was.good.sound; readable = good_readable events was.listed was.good; grown = was.grown; earlier = was.earlier; lists = subst (ListsFirst now) was.same lists; shown = was.shown })
 
 -- What it tells is so of the versions that it listed.
-pub told_of_listed : (events : List Event) (objects : Objects) (entries : List Entry) (job : SourceJob) (before now : Talk) (answer : Result ReadRows TailFault) (names : List (List ℕ)) → ListsFirst now names → SeesWell events objects (reads job) before now
-    → MayTellOfRead objects entries job before now answer → TellsOfListed (take (next_version now) entries) job answer
-told_of_listed events objects entries job before now answer names lists seen may =
+pub told_of_listed : (events : List Event) (objects : Objects) (schema : Schema) (entries : List Entry) (job : SourceJob) (before now : Talk) (answer : Result ReadRows TailFault) (names : List (List ℕ)) → ListsFirst now names → SeesWell events objects (reads job) before now
+    → MayTellOfRead objects schema entries job before now answer → TellsOfListed schema (take (next_version now) entries) job answer
+told_of_listed events objects schema entries job before now answer names lists seen may =
     let was = was_listed events objects job before now names lists seen in
     may.told was.0 was.1
 
+-- What a read handed out of a table is a part of its entries.
+part_of : (schema : Schema) (entries : List Entry) (job : SourceJob) (handed : ReadRows) → IsPartOfTable schema entries job (Ok handed) → IsPart job.max job.place (row_views handed.rows.items) (offset_view handed.next) entries
+part_of schema [] job handed none = absurd none
+part_of schema (first ∷ rest) job handed part = part.1
+
 module _ (laws : AreLaws) where
   -- a part of the first versions is one of all
-  part_of_all : (entries : List Entry) (count : ℕ) (job : SourceJob) (handed : ReadRows) → TellsOfListed (take count entries) job (Ok handed) → IsPartOfTable entries job (Ok handed)
-  part_of_all entries count job handed told = by_front (take count entries) refl told
+  part_of_all : (schema : Schema) (entries : List Entry) (count : ℕ) (job : SourceJob) (handed : ReadRows) → TellsOfListed schema (take count entries) job (Ok handed) → IsPartOfTable schema entries job (Ok handed)
+  part_of_all schema entries count job handed told = by_front (take count entries) refl told
     where
-      by_front : (front : List Entry) → take count entries ≡ front → TellsOfListed front job (Ok handed) → IsPartOfTable entries job (Ok handed)
+      by_front : (front : List Entry) → take count entries ≡ front → TellsOfListed schema front job (Ok handed) → IsPartOfTable schema entries job (Ok handed)
       by_front [] is none = absurd none
       by_front (first ∷ rest) is part =
-          subst (λ (es : List Entry). IsPartOfTable es job (Ok handed)) (ap (λ (es : List Entry). es ++ drop count entries) (sym is) ∙ take-append-drop count entries)
-          (laws.part_stays job.max job.place (offset_view handed.next) (first ∷ rest) (drop count entries) (row_views handed.rows.items) part.0)
+          subst (λ (es : List Entry). IsPartOfTable schema es job (Ok handed)) (ap (λ (es : List Entry). es ++ drop count entries) (sym is) ∙ take-append-drop count entries)
+          (part.0, laws.part_stays job.max job.place (offset_view handed.next) (first ∷ rest) (drop count entries) (row_views handed.rows.items) part.1)
 
   -- so are rows that were handed out by what any objects show: a list of what stands would show them, too
   part_of_any : (events : List Event) (objects : Objects) (schema : Schema) (entries : List Entry) → IsGoodStore events objects → Holds objects schema entries → (job : SourceJob) (before now : Talk) (end : ReadEnd) (handed : ReadRows) → end.answer ≡ Ok handed → Bears objects before
-      → SourceEnds job before now end → ((others : Objects) → Shows now others) → IsPartOfTable entries job (Ok handed)
+      → SourceEnds job before now end → ((others : Objects) → Shows now others) → IsPartOfTable schema entries job (Ok handed)
   part_of_any events objects schema entries good holds job before now end handed is earlier ends any =
-      let may : MayTellOfRead objects entries job before listing end.answer =
+      let may : MayTellOfRead objects schema entries job before listing end.answer =
       laws.may objects schema entries (reads job) before listing (tells (read end)) (record {
         sound = good.sound;
         bytes = good.bytes;
@@ -117,7 +122,7 @@ module _ (laws : AreLaws) where
         borne = ((λ name has. (listed_iff_stands objects name).0 has), tt);
         asked = (refl, tt);
       }) tt (ends_by_list job before now end handed is ends any (names_of objects), ap loses is) in
-      part_of_all entries (next_version listing) job handed (subst (TellsOfListed (take (next_version listing) entries) job) is (may.told objects (record {
+      part_of_all schema entries (next_version listing) job handed (subst (TellsOfListed schema (take (next_version listing) entries) job) is (may.told objects (record {
         sound = good.sound;
         readable = good_readable events objects good;
         grown = λ name bytes stands. stands;
@@ -129,30 +134,30 @@ module _ (laws : AreLaws) where
       listing : Talk
       listing = (list_names, told_names (names_of objects)) ∷ []
 
-  -- What a read tells is a part of the table.
+  -- What a read tells is a part of the table, by its schema.
   pub read_part : (events : List Event) (objects : Objects) (schema : Schema) (entries : List Entry) → IsGoodStore events objects → Holds objects schema entries → (job : SourceJob) (before now : Talk) (end : ReadEnd) → Bears objects before → SeesWell events objects (reads job) before now
-      → HasAsked (reads job) before now → SourceEnds job before now end → MayTellOfRead objects entries job before now end.answer → IsPartOfTable entries job end.answer
+      → HasAsked (reads job) before now → SourceEnds job before now end → MayTellOfRead objects schema entries job before now end.answer → IsPartOfTable schema entries job end.answer
   read_part events objects schema entries good holds job before now end earlier seen asked ends may = by_answer end.answer refl
     where
-      by_answer : (answer : Result ReadRows TailFault) → end.answer ≡ answer → IsPartOfTable entries job answer
+      by_answer : (answer : Result ReadRows TailFault) → end.answer ≡ answer → IsPartOfTable schema entries job answer
       by_answer (Err fault) is = tt
       by_answer (Ok handed) is = elim (lists_first job before now asked) [
         | inl lists ↦
-            let told = told_of_listed events objects entries job before now end.answer lists.0 lists.1 seen may in
-            part_of_all entries (next_version now) job handed (subst (TellsOfListed (take (next_version now) entries) job) is told)
+            let told = told_of_listed events objects schema entries job before now end.answer lists.0 lists.1 seen may in
+            part_of_all schema entries (next_version now) job handed (subst (TellsOfListed schema (take (next_version now) entries) job) is told)
         | inr any ↦ part_of_any events objects schema entries good holds job before now end handed is earlier ends any
       ]
 
   -- ---- several reads
 
-  module _ (outs : List (Job × Outcome)) (entries : List Entry) (parts : (job : SourceJob) (end : ReadEnd) → Contains outs (reads job, read end) → IsPartOfTable entries job end.answer) where
+  module _ (outs : List (Job × Outcome)) (schema : Schema) (entries : List Entry) (parts : (job : SourceJob) (end : ReadEnd) → Contains outs (reads job, read end) → IsPartOfTable schema entries job end.answer) where
     one_part : (offset : Offset) → is_offset offset entries ≡ true → (one : SourceJob × ReadEnd) → Contains outs (reads one.0, read one.1) → one.0.place ≡ offset
         → IsPart one.0.max offset (rows_told one.1.answer) (next_told offset one.1.answer) entries
     one_part offset within one has at = by_answer one.1.answer (parts one.0 one.1 has)
       where
-        by_answer : (answer : Result ReadRows TailFault) → IsPartOfTable entries one.0 answer → IsPart one.0.max offset (rows_told answer) (next_told offset answer) entries
+        by_answer : (answer : Result ReadRows TailFault) → IsPartOfTable schema entries one.0 answer → IsPart one.0.max offset (rows_told answer) (next_told offset answer) entries
         by_answer (Err fault) part = laws.part_none one.0.max offset entries within
-        by_answer (Ok handed) part = subst (λ (o : Offset). IsPart one.0.max o (row_views handed.rows.items) (offset_view handed.next) entries) at part
+        by_answer (Ok handed) part = subst (λ (o : Offset). IsPart one.0.max o (row_views handed.rows.items) (offset_view handed.next) entries) at (part_of schema entries one.0 handed part)
 
     resumed_part : (offset : Offset) (those : List (SourceJob × ReadEnd)) → is_offset offset entries ≡ true → Resume outs offset those → IsPart (most_rows those) offset (all_rows_handed those) (last_offset offset those) entries
     resumed_part offset [] within resume = laws.part_none 0 offset entries within

@@ -118,10 +118,10 @@ module _ (laws : AreLaws) (events : List Event) (outs : List (Job × Outcome)) (
 -- What a read told that listed names is so of the versions that were listed: it told none of the refusals but two, that version 0 is missing
 -- where none was listed, that a call was lost, or that memory ran out.
 pub read_told_so : (laws : AreLaws) (events : List Event) (outs : List (Job × Outcome)) (w : World) → IsGoodWorld events outs w → (name : ℕ) (actor : Actor) (job : SourceJob) (end : ReadEnd) → HasActor w name actor → actor.job ≡ reads job
-    → actor.hand ≡ ended (read end) → (names : List (List ℕ)) → ListsFirst actor.talk names → (schema : Schema) (entries : List Entry) → Holds w.objects schema entries → IsReadSo entries job actor.talk names end.answer
+    → actor.hand ≡ ended (read end) → (names : List (List ℕ)) → ListsFirst actor.talk names → (schema : Schema) (entries : List Entry) → Holds w.objects schema entries → IsReadSo schema entries job actor.talk names end.answer
 read_told_so laws events outs w good name actor job end is of_job hand names lists schema entries holds = record {
   stand = take_length (count_in names) entries within;
-  told = listed_begun (take (count_in names) entries) job same.0 end.answer (subst (λ (n : ℕ). TellsOfListed (take n entries) begun end.answer) count (told_of_listed events w.objects entries begun actor.before actor.talk end.answer names lists seen told));
+  told = listed_begun schema (take (count_in names) entries) job same.0 end.answer (subst (λ (n : ℕ). TellsOfListed schema (take n entries) begun end.answer) count (told_of_listed events w.objects schema entries begun actor.before actor.talk end.answer names lists seen told));
   lost = told.lost;
 }
   where
@@ -138,7 +138,7 @@ read_told_so laws events outs w good name actor job end is of_job hand names lis
     seen : SeesWell events w.objects (reads begun) actor.before actor.talk
     seen = subst (λ (j : Job). SeesWell events w.objects j actor.before actor.talk) same.1 own.seen
 
-    told : MayTellOfRead w.objects entries begun actor.before actor.talk end.answer
+    told : MayTellOfRead w.objects schema entries begun actor.before actor.talk end.answer
     told = subst (λ (j : Job). MayTell w.objects schema entries j actor.before actor.talk (read end)) same.1 (may laws events outs w good name actor (read end) is hand schema entries holds)
 
     count : next_version actor.talk ≡ count_in names

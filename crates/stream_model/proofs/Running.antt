@@ -145,5 +145,5 @@ headline_of laws events outs w good schema entries holds = record {
   submitted = λ b has. good.store.submitted schema entries holds b has;
   told = λ job end has. good.told job end has schema entries holds;
   parts = λ job end has. good.parts job end has schema entries holds;
-  handed = hands_out laws outs entries (λ job end has. good.parts job end has schema entries holds);
+  handed = hands_out laws outs schema entries (λ job end has. good.parts job end has schema entries holds);
 }

@@ -278,10 +278,10 @@ module _ (laws : AreLaws) where
         stream_so schema entries job same.0 end.answer
         (subst (λ (o : Outcome). MayTell w.objects schema entries (streams (record job { load = same.0 })) actor.before now o) as_told (subst (λ (j : Job). MayTell w.objects schema entries j actor.before now outcome) same.2 may))
 
-    -- what a read tells is a part of the table
+    -- what a read tells is a part of the table, by its schema
     part_so : (schema : Schema) (entries : List Entry) → Holds w.objects schema entries → (outcome : Outcome) → MayTell w.objects schema entries actor.begun actor.before now outcome → Does actor.begun actor.before now (tells outcome)
-        → (job : SourceJob) (end : ReadEnd) → IsBegunAs (reads job) actor.begun → outcome ≡ read end → IsPartOfTable entries job end.answer
-    part_so schema entries holds outcome may does job end same as_told = part_begun entries job same.0 end.answer (by_read (subst IsAll same.1 (subst IsTold as_told (may, does), so.1, so.3)))
+        → (job : SourceJob) (end : ReadEnd) → IsBegunAs (reads job) actor.begun → outcome ≡ read end → IsPartOfTable schema entries job end.answer
+    part_so schema entries holds outcome may does job end same as_told = part_begun schema entries job same.0 end.answer (by_read (subst IsAll same.1 (subst IsTold as_told (may, does), so.1, so.3)))
       where
         IsTold : Outcome → Type 0
         IsTold told = MayTell w.objects schema entries actor.begun actor.before now told × Does actor.begun actor.before now (tells told)
@@ -289,7 +289,7 @@ module _ (laws : AreLaws) where
         IsAll : Job → Type 0
         IsAll j = (MayTell w.objects schema entries j actor.before now (read end) × Does j actor.before now (tells (read end))) × HasAsked j actor.before now × SeesWell events w.objects j actor.before now
 
-        by_read : IsAll (reads (record job { known = same.0 })) → IsPartOfTable entries (record job { known = same.0 }) end.answer
+        by_read : IsAll (reads (record job { known = same.0 })) → IsPartOfTable schema entries (record job { known = same.0 }) end.answer
         by_read all = read_part laws events w.objects schema entries good.store holds (record job { known = same.0 }) actor.before now end acting.earlier all.2 all.1 all.0.1.0 all.0.0
 
     pub world_tells : (outcome : Outcome) → Does actor.begun actor.before now (tells outcome) → IsGoodWorld events (with_told outs (Some (actor.job, outcome))) (with_actor w name (Some (record actor { talk = now; hand = ended outcome })))

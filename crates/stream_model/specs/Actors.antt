@@ -34,4 +34,4 @@ pub record EndsSo (objects : Objects) (actor : Actor) (outcome : Outcome) : Type
   pub schema : TellsSchemaChanged outcome → ⊥
   pub supported : (tree : Schema) (entries : List Entry) → Holds objects tree entries → TellsUnsupported outcome → has_key_inside (codes "delta.invariants") tree ≡ true
   pub reads : (job : SourceJob) (end : ReadEnd) → actor.job ≡ jobs.reads job → outcome ≡ jobs.read end → (names : List (List ℕ)) → ListsFirst actor.talk names
-      → (tree : Schema) (entries : List Entry) → Holds objects tree entries → IsReadSo entries job actor.talk names end.answer
+      → (tree : Schema) (entries : List Entry) → Holds objects tree entries → IsReadSo tree entries job actor.talk names end.answer

@@ -3,6 +3,7 @@ use Rattle.std.specs.Prelude.{◌≡◌, ◌<◌, ℕ, List, [], ◌∷◌, ◌+
 use Rattle.session_core.specs.Talks.{Talk}
 use Rattle.row_core.specs.Rows.{Row}
 use Rattle.row_core.specs.Views.{row_views}
+use Rattle.schema_tree.specs.Schema.{tree_of}
 use Rattle.table_log.specs.Counts.{count_in}
 use Rattle.table_log.specs.declared.fault.LogFault.TheVariants as load_faults
 use Rattle.delta_replay.specs.declared.support.SupportFault.{SupportFault}
@@ -48,12 +49,12 @@ pub data TellsBadLog : Outcome → Type 0 where
   bad_checkpoint : (end : CheckpointEnd) (version : ℕ) → end.answer ≡ Err (checkpoint_faults.BadLog version) → TellsBadLog (checkpoint end)
   bad_stream : (end : SinkEnd) (version : ℕ) → end.answer ≡ Err (faults.BadLog version) → TellsBadLog (stream end)
 
--- What a read told that listed these names is so of the table's first versions, as many as were listed, which all stand: a part of them, or
--- why the offset is none of theirs, and where no commit was listed that version 0 is missing. That a call was lost it told only right behind
+-- What a read told that listed these names is so of the table's first versions, as many as were listed, which all stand: by its schema a part of
+-- them, or why the offset is none of theirs, and where no commit was listed that version 0 is missing. That a call was lost it told only right behind
 -- one that was, and that memory ran out at any time.
-pub record IsReadSo (entries : List Entry) (job : SourceJob) (talk : Talk) (names : List (List ℕ)) (answer : Result ReadRows TailFault) : Type 0 where
+pub record IsReadSo (schema : Schema) (entries : List Entry) (job : SourceJob) (talk : Talk) (names : List (List ℕ)) (answer : Result ReadRows TailFault) : Type 0 where
   pub stand : length (take (count_in names) entries) ≡ count_in names
-  pub told : TellsOfListed (take (count_in names) entries) job answer
+  pub told : TellsOfListed schema (take (count_in names) entries) job answer
   pub lost : answer ≡ Err read_faults.Lost → ends_lost talk ≡ true
 
 -- that a winner changed the table's schema
@@ -77,10 +78,12 @@ IsSoOf schema entries job (Err (faults.Stale last)) = TellsOfBatch schema entrie
 IsSoOf schema entries job (Err faults.StreamClosed) = TellsOfBatch schema entries job appended.StreamClosed
 IsSoOf schema entries job (Err fault) = Unit {0}
 
--- What a read handed out is a part of the table, from its offset up to where the next read begins. A refused one hands out nothing.
-abbrev pub IsPartOfTable : List Entry → SourceJob → Result ReadRows TailFault → Type 0
-IsPartOfTable entries job (Ok handed) = IsPart job.max job.place (row_views handed.rows.items) (offset_view handed.next) entries
-IsPartOfTable entries job (Err fault) = Unit {0}
+-- What a read handed out is a part of the table, which has a version, from its offset up to where the next read begins, and it went by the table's
+-- schema. A refused one hands out nothing.
+abbrev pub IsPartOfTable : Schema → List Entry → SourceJob → Result ReadRows TailFault → Type 0
+IsPartOfTable schema [] job (Ok handed) = ⊥
+IsPartOfTable schema (first ∷ rest) job (Ok handed) = (tree_of handed.schema.schema ≡ schema) × IsPart job.max job.place (row_views handed.rows.items) (offset_view handed.next) (first ∷ rest)
+IsPartOfTable schema entries job (Err fault) = Unit {0}
 
 -- the outcome tells that the job's batch stands: it was committed, or stood already
 pub data Acknowledges (end : SinkEnd) : Type 0 where
@@ -121,13 +124,13 @@ pub record HandsOutTheLog (outs : List (Job × Outcome)) (entries : List Entry) 
 
 -- Of the table that a store holds: each batch stands once, each application's numbers rise, and none of it stands with or behind its close;
 -- each batch that was acknowledged was handed in, and stands; each batch that stands was handed in, with these rows; what a stream was
--- told of its batch or its close is so, of the outcomes that `IsSoOf` speaks of; each read handed out a part of the table, and readers that
--- resume at their last offset its rows up to there.
+-- told of its batch or its close is so, of the outcomes that `IsSoOf` speaks of; each read handed out a part of the table by its schema, and
+-- readers that resume at their last offset its rows up to there.
 pub record IsHeadline (events : List Event) (outs : List (Job × Outcome)) (schema : Schema) (entries : List Entry) : Type 0 where
   pub once : StandOnce (batches entries)
   pub lawful : IsLawful entries
   pub acknowledged : (job : SinkJob) (end : SinkEnd) → Contains outs (streams job, stream end) → Acknowledges end → Submitted events job × (b : Batch) × IsBatchOf schema job b × Contains (batches entries) b
   pub submitted : (b : Batch) → Contains (batches entries) b → (job : SinkJob) × Submitted events job × IsBatchOf schema job b
   pub told : (job : SinkJob) (end : SinkEnd) → Contains outs (streams job, stream end) → IsSoOf schema entries job end.answer
-  pub parts : (job : SourceJob) (end : ReadEnd) → Contains outs (reads job, read end) → IsPartOfTable entries job end.answer
+  pub parts : (job : SourceJob) (end : ReadEnd) → Contains outs (reads job, read end) → IsPartOfTable schema entries job end.answer
   pub handed : HandsOutTheLog outs entries

@@ -40,15 +40,15 @@ use table_model::{a_part_from_the_beginning_is_a_front, parts_that_follow_are_on
 ///   acknowledged was handed in, and stands; each that stands was handed in, with these rows; and where an append told
 ///   that its batch was put as a version, stands already, is below a number that stands (S1) or comes behind the close
 ///   of its stream (S2), or a close that it was put as a version or its stream was closed already, that is so; each
-///   read handed out a part of that table, from its offset up to where it ended; and reads that follow one another from
-///   an offset of that table, each from where the one before ended, were handed its rows from the first offset to the
-///   last, which from the beginning are the log's first rows, each once, in the order of the log (`headline`). Of other
-///   refusals it says nothing;
-/// - a read that has ended and had listed names told of the versions that were listed, which all stand: their rows from
-///   its offset on, as many as it was to hand out or up to the start of the version that came next then; that its
-///   offset is past their end (O2), or in no file of its version (O10); where no commit was listed, that version 0 is
-///   missing (O12); that a call was lost, right behind one that was; or that memory ran out. No other refusal of a read
-///   comes;
+///   read handed out a part of that table by its schema, from its offset up to where it ended; and reads that follow
+///   one another from an offset of that table, each from where the one before ended, were handed its rows from the
+///   first offset to the last, which from the beginning are the log's first rows, each once, in the order of the log
+///   (`headline`). Of other refusals it says nothing;
+/// - a read that has ended and had listed names told of the versions that were listed, which all stand: by the table's
+///   schema their rows from its offset on, as many as it was to hand out or up to the start of the version that came
+///   next then; that its offset is past their end (O2), or in no file of its version (O10); where no commit was listed,
+///   that version 0 is missing (O12); that a call was lost, right behind one that was; or that memory ran out. No other
+///   refusal of a read comes;
 /// - a session that has ended, and whose list had a commit, didn't tell that one is missing or can't be read; none told
 ///   that a winner changed the schema; and one told that a checkpoint isn't put for what the table asks of its writers
 ///   only where a field has `delta.invariants` (`ends`, of reads too).
