@@ -1,9 +1,11 @@
 //! What lines ask for, as jobs.
-ghost use Rattle.std.specs.Prelude.{◌≡◌, ◌<◌, ◌≤◌, ◌^◌, IfOk, Ok, Some, false, option_map, true};
+ghost use Rattle.std.specs.Prelude.{◌≡◌, ◌<◌, ◌≤◌, ◌^◌, [], IfOk, Ok, Some, false, option_map, true};
 ghost use Rattle.std.specs.Str.{IsUtf8};
 ghost use Rattle.script_lines.specs.Lines.{IsTimelyTask, task, task_view};
 ghost use Rattle.sink_core.specs.SinkSessions as sinks;
-ghost use Rattle.table_jobs.specs.Views.{job_view, new_load, stream_view};
+ghost use Rattle.log_offsets.specs.Offsets.{offset_of};
+ghost use Rattle.table_jobs.specs.Jobs.{reads, streams};
+ghost use Rattle.table_jobs.specs.Views.{job_view, new_load};
 ghost use Rattle.lake_script.specs.LineJobs.{IsOfText, job_of_creation, job_of_task};
 ghost use Rattle.lake_script.specs.ReplyView.{is_short_reply, reply_text, says_lost};
 ghost use Rattle.lake_script.specs.Runs.{IsWantOfMemory};
@@ -46,31 +48,14 @@ pub fn job_of_task<'r>(
             rows,
         } => {
             let task = SinkTask::Append { number, rows };
-            let job = stream_job(alloc, application, task, at, tries, use_checkpoints)?;
-            Ok(Some(Job::Stream(job)))
+            stream_job(alloc, application, task, at, tries, use_checkpoints)
         }
         lines::Job::Close { application, at } => {
-            let job = stream_job(
-                alloc,
-                application,
-                SinkTask::Close,
-                at,
-                tries,
-                use_checkpoints,
-            )?;
-            Ok(Some(Job::Stream(job)))
+            let task = SinkTask::Close;
+            stream_job(alloc, application, task, at, tries, use_checkpoints)
         }
         lines::Job::Checkpoint => Ok(Some(Job::Checkpoint { use_checkpoints })),
-        lines::Job::Tail { max, offset } => {
-            let Some(place) = read_offset(alloc, offset)? else {
-                return Ok(None);
-            };
-            Ok(Some(Job::Read {
-                place,
-                max,
-                use_checkpoints,
-            }))
-        }
+        lines::Job::Tail { max, offset } => read_job(alloc, offset, max, use_checkpoints),
     }
 }
 
@@ -81,20 +66,39 @@ fn stream_job<'r>(
     at: u64,
     tries: u64,
     use_checkpoints: bool,
-) -> Result<StreamJob<'r>, AllocError>
+) -> Result<Option<Job<'r>>, AllocError>
     requires tries { 1 ≤ tries }
     requires at { at < 2 ^ 63 }
-    ensures job { IfOk result (λ job. stream_view job ≡ record { application = application.now; task = sinks.sink_task_view task.entry; at = at; tries = tries; load = new_load use_checkpoints }) }
+    ensures job { IfOk result (λ found. option_map job_view found ≡ Some (streams (record { application = application.now; task = sinks.sink_task_view task.entry; at = at; tries = tries; load = new_load use_checkpoints }))) }
     ensures text { IsUtf8 application.now }
 {
     let application = String::from_str(alloc, application)?;
-    Ok(StreamJob {
+    Ok(Some(Job::Stream(StreamJob {
         application,
         task,
         at,
         tries,
         use_checkpoints,
-    })
+    })))
+}
+
+/// The job that reads from an offset on; none, where that can't be read.
+fn read_job<'r>(
+    alloc: Global,
+    offset: &str,
+    max: u64,
+    use_checkpoints: bool,
+) -> Result<Option<Job<'r>>, AllocError>
+    ensures { IfOk result (λ found. option_map job_view found ≡ option_map (λ place. reads (record { place = place; max = max; use_checkpoints = use_checkpoints; known = [] })) (offset_of offset.now)) }
+{
+    let Some(place) = read_offset(alloc, offset)? else {
+        return Ok(None);
+    };
+    Ok(Some(Job::Read {
+        place,
+        max,
+        use_checkpoints,
+    }))
 }
 
 /// What is told of a job for which there is no memory.

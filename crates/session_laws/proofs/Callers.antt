@@ -1,4 +1,5 @@
 -- The lemmas that proofs of other crates may cite.
+pub use Rattle.session_laws.proofs.CreationPuts.{creation_commit}
 pub use Rattle.session_laws.proofs.Entries.{IsEntryAt, batch_file, entry_at, within_table}
 pub use Rattle.session_laws.proofs.Fronts.{IsFrontOf, front_of, reached_front}
 pub use Rattle.session_laws.proofs.NextVersions.{get_next, reaches_some}

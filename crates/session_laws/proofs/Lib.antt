@@ -1,5 +1,6 @@
 pub mod Callers
 mod Created
+mod CreationPuts
 mod Entries
 mod Files
 mod Fronts

@@ -257,7 +257,8 @@ TellsOfNone (Err read_faults.Memory) = Unit {0}
 TellsOfNone answer = ⊥
 
 -- Of the versions that were listed it tells, by the table's schema, a part from its offset on: as many rows as it was to hand out, or those up to the version
--- that came next then; or that its offset is past their end, or in no file of its version.
+-- that came next then; or that its offset is past their end, or in no file of its version; or that a call was lost or memory ran out. Where none
+-- was listed, what is told of no table.
 abbrev pub TellsOfListed : Schema → List Entry → SourceJob → Result ReadRows TailFault → Type 0
 TellsOfListed schema [] job answer = TellsOfNone answer
 TellsOfListed schema (first ∷ rest) job answer = MayTellOfTable schema job.max job.place (first ∷ rest) answer

@@ -15,21 +15,23 @@ use Rattle.table_log.proofs.Callers.{commit_is_none, data_file_is_none}
 use Rattle.table_model.specs.Lawful.{BeginsWithCreation}
 use Rattle.table_model.specs.Table.{Batch, Entry, batches, batches_of, close, creation, group}
 use Rattle.table_model.proofs.Callers.{batches-append}
-use Rattle.table_store.specs.Commits.{IsClose, IsCommitOf, IsGroupOf, StandFor, without_commit_info}
+use Rattle.table_store.specs.Commits.{IsClose, IsCommitOf, IsCreation, IsGroupOf, StandFor, without_commit_info}
 use Rattle.table_store.specs.Holds.{FileStands, Holds, HoldsFirst, HoldsFrom}
 use Rattle.table_store.specs.Schema.{Schema}
 use Rattle.table_store.specs.Sound.{IsAdmissible, IsSound}
-use Rattle.table_store.proofs.Callers.{commit_name-data_file_name}
+use Rattle.table_store.proofs.Callers.{commit_name-data_file_name, commit_name-once}
 use Rattle.table_store.proofs.HeldLemmas.{HoldsFirst-end}
-use Rattle.table_store.proofs.HoldingOne.{one_entry, one_list, one_object}
+use Rattle.table_store.proofs.HoldingOne.{close_no_creation, one_entry, one_list, one_object}
 use Rattle.table_store.proofs.HoldingSchema.{one_creation_of, one_schema, only_table}
 use Rattle.table_store.proofs.HoldingKept.{FilesStand-kept, Stands-kept}
 use Rattle.table_store.proofs.HoldingPuts.{HoldsFrom-commit}
 use Rattle.log_laws.specs.Sound.{IsSoundStore}
 use Rattle.sink_core.specs.SinkSessions.{SinkJob}
+use Rattle.session_laws.specs.CreateSessions.{CreateJob, IsCreationOf}
+use Rattle.session_laws.specs.Jobs as jobs
 use Rattle.session_laws.specs.Rows.{IsBatchOf}
 use Rattle.stream_model.specs.Events.{Event}
-use Rattle.stream_model.specs.Puts.{HasTable, IsGoodPut, IsCommitMade, IsSubmittedFile, Submitted, a_checkpoint, a_commit, a_file, appends, closes, creates}
+use Rattle.stream_model.specs.Puts.{HasTable, IsGoodPut, IsCommitMade, IsSubmittedFile, Submitted, WasBegun, a_checkpoint, a_commit, a_file, appends, closes, creates}
 use Rattle.stream_model.proofs.Growing.{lawful_held, table_grows}
 
 -- ---- objects
@@ -81,6 +83,19 @@ IsSubmitted events schema b = (job : SinkJob) × Submitted events job × IsBatch
 -- so were all batches of the table that a store holds
 abbrev pub AreSubmitted : List Event → Objects → Type 0
 AreSubmitted events objects = (schema : Schema) (entries : List Entry) → Holds objects schema entries → (b : Batch) → Contains (batches entries) b → IsSubmitted events schema b
+
+-- bytes are the commit of a creation that was handed in
+abbrev pub CreatesAsAsked : List Event → (bytes : List ℕ) → Type 0
+CreatesAsAsked events bytes = (job : CreateJob) × WasBegun events (jobs.creates job) × IsCreationOf job bytes
+
+-- so is the commit of version 0, where it stands
+abbrev pub IsBegunAsAsked : List Event → Objects → Type 0
+IsBegunAsAsked events objects = (bytes : List ℕ) → object_at objects (commit_name 0) ≡ Some bytes → CreatesAsAsked events bytes
+
+-- a list of no entries is empty
+none_long : (entries : List Entry) → length entries ≡ 0 → entries ≡ []
+none_long [] long = refl
+none_long (entry ∷ entries) long = absurd cc
 
 -- an empty list has nothing
 pub none_in : {A : Type 0} (x : A) → Contains [] x → ⊥
@@ -142,10 +157,6 @@ module _ (events : List Event) (objects : Objects) (sound : IsSound objects) (ve
   -- the batches of the entry that an admissible commit of a job adds were handed in
   pub added_submitted : IsCommitMade events objects version bytes → (b : Batch) → Contains (batches_of new.entry) b → IsSubmitted events new.schema b
   added_submitted (creates job begun is made) b has = absurd (first_none (none_long new.entries (new.at ∙ is)) b has)
-    where
-      none_long : (es : List Entry) → length es ≡ 0 → es ≡ []
-      none_long [] long = refl
-      none_long (e ∷ es) long = absurd cc
   added_submitted (closes schema job submitted task commit) b has = absurd (close_none schema job.application commit b has)
   added_submitted (appends schema job c table submitted of_job commit file) b has =
       let both = batch_only schema c table commit file new.entries refl b has in
@@ -174,6 +185,33 @@ module _ (events : List Event) (objects : Objects) (sound : IsSound objects) (ve
               | inr none ↦ absurd (none_in b none)
             ])
           ])
+
+  -- no close is put as version 0
+  no_first_close : (schema : Schema) (application : List ℕ) → IsCommitOf schema (close application) bytes → new.entries ≡ [] → ⊥
+  no_first_close schema application commit is = by_entry new.entry (subst (λ (es : List Entry). BeginsWithCreation (es ++ new.entry ∷ [])) is new.lawful.begins) new.commit
+    where
+      by_entry : (entry : Entry) → BeginsWithCreation (entry ∷ []) → IsCommitOf new.schema entry bytes → ⊥
+      by_entry creation begins own =
+          let lists = one_list bytes bytes new.schema schema creation (close application) refl own commit in
+          close_no_creation new.schema application (without_commit_info commit.actions) commit.stand (subst (λ (made : List actions.Action). IsCreation new.schema (without_commit_info made)) lists own.stand)
+      by_entry (group bs) begins own = begins
+      by_entry (close other) begins own = begins
+
+  -- The commit of version 0 stays one of a creation that was handed in.
+  pub commit_created : IsBegunAsAsked events objects → IsCommitMade events objects version bytes → IsBegunAsAsked events (with_object objects (commit_name version) bytes)
+  commit_created all made = λ found is. elim (stood_or_put objects (commit_name version) bytes (commit_name 0) found is) [
+    | inl stood ↦ all found stood
+    | inr (here, same) ↦ subst (CreatesAsAsked events) (sym same) (by_made made (commit_name-once 0 version (omega arith) here) (subst (λ (b : List ℕ). object_at (with_object objects (commit_name version) bytes) (commit_name 0) ≡ Some b) same is))
+  ]
+    where
+      by_made : IsCommitMade events objects version bytes → 0 ≡ version → object_at (with_object objects (commit_name version) bytes) (commit_name 0) ≡ Some bytes → CreatesAsAsked events bytes
+      by_made (creates job begun zero made) at is = (job, begun, made)
+      by_made (appends schema job c (first, rest, holds) submitted of_job commit file) at is =
+          let stands = object_at-with_object_kept objects (commit_name version) bytes (commit_name 0) holds.0.0 holds.0.1 in
+          let both = sym stands ∙ is in
+          let same : holds.0.0 ≡ bytes = cc in
+          subst (CreatesAsAsked events) same (all holds.0.0 holds.0.1)
+      by_made (closes schema job submitted task commit) at is = absurd (no_first_close schema job.application commit (none_long new.entries (new.at ∙ sym at)))
 
 -- ---- data files
 
@@ -219,6 +257,13 @@ module _ (objects : Objects) (name bytes : List ℕ) (apart : (version : ℕ) �
     held_beside schema (suc version) entries holds.2,
   )
 
+  -- and the commit of version 0
+  beside_created : (events : List Event) → IsBegunAsAsked events objects → IsBegunAsAsked events (with_object objects name bytes)
+  beside_created events all = λ found is. elim (stood_or_put objects name bytes (commit_name 0) found is) [
+    | inl stood ↦ all found stood
+    | inr (here, same) ↦ absurd (apart 0 here)
+  ]
+
   -- and so its batches
   beside_submitted : (events : List Event) → IsSound objects → AreSubmitted events objects → AreSubmitted events (with_object objects name bytes)
   beside_submitted events sound all = λ schema entries held b has. by_entries sound.entries sound.holds sound.lawful.begins schema entries held b has
@@ -239,6 +284,7 @@ module _ (objects : Objects) (name bytes : List ℕ) (apart : (version : ℕ) �
 pub record IsGoodStore (events : List Event) (objects : Objects) : Type 0 where
   pub sound : IsSoundStore objects
   pub bytes : AreBytes objects
+  pub created : IsBegunAsAsked events objects
   pub files : AreFilesSubmitted events objects
   pub submitted : AreSubmitted events objects
 
@@ -264,6 +310,7 @@ module _ (commit_lands : (objects : Objects) (version : ℕ) (bytes : List ℕ) 
         sound = later;
         bytes = put_bytes objects (commit_name version) bytes good.bytes of_bytes;
         files = other_files events objects (commit_name version) bytes good.sound.table later.table (λ application number same. commit_name-data_file_name version application number (sym same)) good.files;
+        created = commit_created events objects good.sound.table version bytes new good.created made;
         submitted = commit_submitted events objects good.sound.table version bytes new good.submitted later.table made;
       }
   put_lands events objects name bytes good (a_checkpoint version named one) of_bytes =
@@ -272,6 +319,7 @@ module _ (commit_lands : (objects : Objects) (version : ℕ) (bytes : List ℕ) 
         sound = later;
         bytes = put_bytes objects name bytes good.bytes of_bytes;
         files = other_files events objects name bytes good.sound.table later.table (checkpoint_no_file name version named) good.files;
+        created = beside_created objects name bytes (checkpoint_apart name version named) events good.created;
         submitted = beside_submitted objects name bytes (checkpoint_apart name version named) events good.sound.table good.submitted;
       }
   put_lands events objects name bytes good (a_file schema table file) of_bytes = subst (λ (n : List ℕ). IsGoodStore events (with_object objects n bytes)) (sym named) behind
@@ -290,5 +338,6 @@ module _ (commit_lands : (objects : Objects) (version : ℕ) (bytes : List ℕ) 
         sound = later;
         bytes = put_bytes objects (data_file_name batch.application batch.number) bytes good.bytes of_bytes;
         files = file_files events objects (data_file_name batch.application batch.number) bytes schema good.sound.table later.table table (subst (λ (n : List ℕ). IsSubmittedFile events schema n bytes) named file) good.files;
+        created = beside_created objects (data_file_name batch.application batch.number) bytes (λ version same. commit_name-data_file_name version batch.application batch.number same) events good.created;
         submitted = beside_submitted objects (data_file_name batch.application batch.number) bytes (λ version same. commit_name-data_file_name version batch.application batch.number same) events good.sound.table good.submitted;
       }

@@ -1,30 +1,33 @@
 -- Whatever happens, it is so of each world; and what follows of it for a table that a store holds.
 use Rattle.std.proofs.Common.{refl, Contains, List, Option, Some, None, [], append-nil, append_assoc, subst, suc, sym, zero, ℕ, ◌++◌, ◌∷◌, ◌≡◌}
-use Rattle.std.specs.Prelude.{slice_get}
+use Rattle.std.specs.Prelude.{Ok, slice_get}
 use Rattle.std.proofs.lemmas.List.Elements.{Contains-append_left, Contains-append_right, Contains-push}
+use Rattle.schema_tree.specs.Reading.{schema_of}
 use Rattle.store_core.specs.Objects.{HasObjectsOf, Objects}
 use Rattle.session_core.specs.Talks.{Asked, get_object, list_names, put_commit, put_file}
 use Rattle.store_core.specs.Names.{commit_name}
 use Rattle.table_model.specs.Table.{Batch, Entry, batches, batches_of}
 use Rattle.table_store.specs.Holds.{Holds}
 use Rattle.table_store.specs.Schema.{Schema}
+use Rattle.table_store.proofs.HoldingSchema.{one_creation_of}
 use Rattle.sink_core.specs.SinkSessions.{SinkJob}
 use Rattle.sink_core.specs.declared.sink_state.SinkEnd.{SinkEnd}
 use Rattle.session_laws.specs.Rows.{IsBatchOf}
 use Rattle.session_laws.specs.Jobs.{Job, Outcome, CanBegin}
+use Rattle.session_laws.proofs.Callers.{creation_commit}
 use Rattle.stream_model.specs.Events.{Event, Happens, IsWorldOf, Ran, acts, at_first, begin, begins, die, dies, ends, goes_on, lands, nothing_happens, then_one, with_told}
 use Rattle.stream_model.specs.Headline.{Acknowledges, IsHeadline, IsSoOf, already, committed}
 use Rattle.stream_model.specs.Worlds.{How, World, empty_world, fresh, late, left_by_call, left_how, lost, once, short, twice}
 use Rattle.stream_model.proofs.Calls.{got_one}
 use Rattle.stream_model.proofs.Good.{IsGoodWorld, world_more}
 use Rattle.stream_model.proofs.Growing.{lawful_held}
-use Rattle.stream_model.proofs.Landing.{none_in, put_grew}
+use Rattle.stream_model.proofs.Landing.{IsBegunAsAsked, none_in, put_grew}
 use Rattle.stream_model.proofs.Laws.{AreLaws}
 use Rattle.stream_model.proofs.Once.{stands_once}
 use Rattle.stream_model.proofs.Readers.{hands_out}
 use Rattle.stream_model.proofs.Seen.{none_seen}
 use Rattle.stream_model.proofs.Steps.{with_good, without_actor, world_acts, world_asks, world_put, world_tells}
-use Rattle.stream_model.specs.Puts.{WasBegun}
+use Rattle.stream_model.specs.Puts.{WasBegun, WasCreated}
 
 -- a job that is begun now was begun
 begun_now : (events : List Event) (name : ℕ) (job : Job) → CanBegin job → WasBegun (events ++ begin name job ∷ []) job
@@ -41,6 +44,7 @@ empty_good laws = record {
   store = record {
     sound = laws.empty;
     bytes = λ name bytes is. absurd cc;
+    created = λ bytes is. absurd cc;
     files = λ application number bytes is. absurd cc;
     submitted = λ schema entries holds b has. absurd (no_batch schema entries holds b has);
   };
@@ -137,8 +141,18 @@ acknowledged_stands : (schema : Schema) (entries : List Entry) (job : SinkJob) (
 acknowledged_stands schema entries job end so (committed version is) = let told = subst (IsSoOf schema entries job) is so in (told.0, told.1, batch_at entries version told.2.0 told.0 told.2.1 told.2.2)
 acknowledged_stands schema entries job end so (already number is) = let told = subst (IsSoOf schema entries job) is so in (told.0, told.1, told.2.1)
 
+-- the table was created as a job asked that was handed in
+was_created : (events : List Event) (objects : Objects) → IsBegunAsAsked events objects → (schema : Schema) (entries : List Entry) → Holds objects schema entries → WasCreated events schema entries
+was_created events objects all schema [] holds = tt
+was_created events objects all schema (first ∷ rest) holds =
+    let one = all holds.0.0 holds.0.1 in
+    let made = creation_commit one.0 holds.0.0 one.2 in
+    let same : made.0 ≡ schema = one_creation_of holds.0.0 holds.0.0 made.0 schema first refl made.2 holds.0.2 in
+    (one.0, one.1, subst (λ (s : Schema). schema_of one.0.schema ≡ Ok s) same made.1)
+
 pub headline_of : AreLaws → (events : List Event) (outs : List (Job × Outcome)) (w : World) → IsGoodWorld events outs w → (schema : Schema) (entries : List Entry) → Holds w.objects schema entries → IsHeadline events outs schema entries
 headline_of laws events outs w good schema entries holds = record {
+  created = was_created events w.objects good.store.created schema entries holds;
   once = stands_once entries (lawful_held w.objects schema entries good.store.sound.table holds).rises;
   lawful = lawful_held w.objects schema entries good.store.sound.table holds;
   acknowledged = λ job end has acknowledges. let one = acknowledged_stands schema entries job end (good.told job end has schema entries holds) acknowledges in (good.handed job end has, one.0, one.1, one.2);

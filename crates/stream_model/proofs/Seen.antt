@@ -19,10 +19,10 @@ use Rattle.row_core.specs.Rows.{Row}
 use Rattle.source_core.specs.SourceSessions.{HasNewFiles, IsNewFile, SourceAsks, SourceJob}
 use Rattle.session_laws.proofs.Callers.{kept_files, sound_kept, batch_file, no_versions}
 use Rattle.session_laws.specs.Rows.{IsReadable, ListsFirst}
-use Rattle.session_laws.specs.Jobs.{Asks, Job, reads}
+use Rattle.session_laws.specs.Jobs.{Asks, Job, creates, reads}
 use Rattle.stream_model.specs.Events.{Event}
 use Rattle.stream_model.specs.Worlds.{left_by_call, told_by_call}
-use Rattle.stream_model.proofs.Growing.{file_more, lawful_held, submitted_more}
+use Rattle.stream_model.proofs.Growing.{begun_more, file_more, lawful_held, submitted_more}
 use Rattle.stream_model.proofs.Landing.{IsGoodStore, put_grew}
 
 -- Where a read listed names, the store was good as it stood then, bore what was known before, has grown since, and the talk shows it.
@@ -44,6 +44,7 @@ pub store_more : (events : List Event) (event : Event) (objects : Objects) → I
 store_more events event objects good = record {
   sound = good.sound;
   bytes = good.bytes;
+  created = λ bytes is. let one = good.created bytes is in (one.0, begun_more events event (creates one.0) one.1, one.2);
   files = λ application number bytes is. let file = good.files application number bytes is in (file.0, file.1, file_more events event file.0 _ bytes file.2);
   submitted = λ schema entries holds b has. let one = good.submitted schema entries holds b has in (one.0, submitted_more events event one.0 one.1, one.2);
 }

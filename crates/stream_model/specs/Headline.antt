@@ -35,7 +35,7 @@ use Rattle.session_laws.specs.Rows.{IsBatchOf, ListsFirst, TellsOfBatch, TellsOf
 use Rattle.session_laws.specs.Jobs.{Job, Outcome, checkpoint, load, read, reads, stream, streams}
 use Rattle.session_laws.specs.Moves.{ends_lost}
 use Rattle.stream_model.specs.Events.{Event}
-use Rattle.stream_model.specs.Puts.{Submitted}
+use Rattle.stream_model.specs.Puts.{Submitted, WasCreated}
 
 -- ---- refusals that don't come
 
@@ -78,8 +78,8 @@ IsSoOf schema entries job (Err (faults.Stale last)) = TellsOfBatch schema entrie
 IsSoOf schema entries job (Err faults.StreamClosed) = TellsOfBatch schema entries job appended.StreamClosed
 IsSoOf schema entries job (Err fault) = Unit {0}
 
--- What a read handed out is a part of the table, which has a version, from its offset up to where the next read begins, and it went by the table's
--- schema. A refused one hands out nothing.
+-- What a read handed out is a part of the table, which has a version, from its offset up to where the next read begins, and the table's schema
+-- with it. A refused one hands out nothing.
 abbrev pub IsPartOfTable : Schema → List Entry → SourceJob → Result ReadRows TailFault → Type 0
 IsPartOfTable schema [] job (Ok handed) = ⊥
 IsPartOfTable schema (first ∷ rest) job (Ok handed) = (tree_of handed.schema.schema ≡ schema) × IsPart job.max job.place (row_views handed.rows.items) (offset_view handed.next) (first ∷ rest)
@@ -122,11 +122,12 @@ pub record HandsOutTheLog (outs : List (Job × Outcome)) (entries : List Entry) 
   pub from_beginning : (those : List (SourceJob × ReadEnd)) → Resume outs beginning those → all_rows_handed those ≡ take (position (last_offset beginning those) entries) (rows entries)
   pub from_offset : (offset : Offset) (those : List (SourceJob × ReadEnd)) → is_offset offset entries ≡ true → Resume outs offset those → IsPart (most_rows those) offset (all_rows_handed those) (last_offset offset those) entries
 
--- Of the table that a store holds: each batch stands once, each application's numbers rise, and none of it stands with or behind its close;
--- each batch that was acknowledged was handed in, and stands; each batch that stands was handed in, with these rows; what a stream was
--- told of its batch or its close is so, of the outcomes that `IsSoOf` speaks of; each read handed out a part of the table by its schema, and
--- readers that resume at their last offset its rows up to there.
+-- Of the table that a store holds: it was created as a job asked that was handed in; each batch stands once, each application's numbers rise,
+-- and none of it stands with or behind its close; each batch that was acknowledged was handed in, and stands; each batch that stands was
+-- handed in, with these rows; what a stream was told of its batch or its close is so, of the outcomes that `IsSoOf` speaks of; each read that
+-- wasn't refused handed out a part of the table with its schema, and readers that resume at their last offset its rows up to there.
 pub record IsHeadline (events : List Event) (outs : List (Job × Outcome)) (schema : Schema) (entries : List Entry) : Type 0 where
+  pub created : WasCreated events schema entries
   pub once : StandOnce (batches entries)
   pub lawful : IsLawful entries
   pub acknowledged : (job : SinkJob) (end : SinkEnd) → Contains outs (streams job, stream end) → Acknowledges end → Submitted events job × (b : Batch) × IsBatchOf schema job b × Contains (batches entries) b

@@ -1,5 +1,6 @@
 -- Which puts are good in a store: they leave it sound, and a data file is one of a batch that was handed in.
-use Rattle.std.specs.Prelude.{◌≡◌, ℕ, List, [], ◌∷◌, Contains, Some}
+use Rattle.std.specs.Prelude.{◌≡◌, ℕ, List, [], ◌∷◌, Contains, Ok, Some}
+use Rattle.schema_tree.specs.Reading.{schema_of}
 use Rattle.store_core.specs.Objects.{Objects}
 use Rattle.store_core.specs.Names.{commit_name}
 use Rattle.table_log.specs.Restoring.{IsSoundCheckpoint, checkpoint_version}
@@ -19,6 +20,11 @@ use Rattle.stream_model.specs.Events.{Event, begin}
 -- some actor began this job, which can begin
 abbrev pub WasBegun : List Event → Job → Type 0
 WasBegun events job = CanBegin job × (name : ℕ) × Contains events (begin name job)
+
+-- a table was created as a job asked that was handed in: its schema is what that job's text is read as
+abbrev pub WasCreated : List Event → Schema → List Entry → Type 0
+WasCreated events schema [] = Unit {0}
+WasCreated events schema (first ∷ rest) = (job : CreateJob) × WasBegun events (jobs.creates job) × (schema_of job.schema ≡ Ok schema)
 
 -- a stream's job was handed in
 abbrev pub Submitted : List Event → SinkJob → Type 0

@@ -35,15 +35,16 @@ use table_model::{a_part_from_the_beginning_is_a_front, parts_that_follow_are_on
 ///   of a creation or a close that a job asks for or of such a batch, or a checkpoint of the log's commits up to its
 ///   version (`flight`);
 /// - each data file has the rows of a batch of its name that was handed in, for the table that stands (`files`);
-/// - of the table that the store holds (by `sound` there is one, without versions until a creation takes effect): each
-///   batch stands once, each application's in rising number, and none with or behind its close; each batch that was
-///   acknowledged was handed in, and stands; each that stands was handed in, with these rows; and where an append told
-///   that its batch was put as a version, stands already, is below a number that stands (S1) or comes behind the close
-///   of its stream (S2), or a close that it was put as a version or its stream was closed already, that is so; each
-///   read handed out a part of that table by its schema, from its offset up to where it ended; and reads that follow
-///   one another from an offset of that table, each from where the one before ended, were handed its rows from the
-///   first offset to the last, which from the beginning are the log's first rows, each once, in the order of the log
-///   (`headline`). Of other refusals it says nothing;
+/// - of the table that the store holds (by `sound` there is one, without versions until a creation takes effect): where
+///   it has a version, its schema is what the text of a creation that was handed in is read as; each batch stands once,
+///   each application's in rising number, and none with or behind its close; each batch that was acknowledged was handed
+///   in, and stands; each that stands was handed in, with these rows; and where an append told that its batch was put as
+///   a version, stands already, is below a number that stands (S1) or comes behind the close of its stream (S2), or a
+///   close that it was put as a version or its stream was closed already, that is so; each read that wasn't refused
+///   handed out a part of that table, which has a version then, from its offset up to where it ended, and the table's
+///   schema with it; and reads that follow one another from an offset of that table, each from where the one before
+///   ended, were handed its rows from the first offset to the last, which from the beginning are the log's first rows,
+///   each once, in the order of the log (`headline`). Of other refusals it says nothing;
 /// - a read that has ended and had listed names told of the versions that were listed, which all stand: by the table's
 ///   schema their rows from its offset on, as many as it was to hand out or up to the start of the version that came
 ///   next then; that its offset is past their end (O2), or in no file of its version (O10); where no commit was listed,

@@ -19,7 +19,7 @@ use Rattle.table_jobs.specs.declared.job.Job.TheVariants as jobs
 use Rattle.table_jobs.specs.declared.job_session.JobEnd as code_end
 use Rattle.stream_model.specs.Events.{ComesToTalk, Event, FitsWorld, Happens, IsWorldOf, act, acts, answer, begin, begins, begins_now, die, dies, ends, goes_on, land, lands, lose_answer, loses, nothing_happens, takes, with_told}
 use Rattle.stream_model.specs.Headline.{IsHeadline}
-use Rattle.stream_model.specs.Puts.{WasBegun}
+use Rattle.stream_model.specs.Puts.{WasBegun, WasCreated}
 use Rattle.stream_model.specs.Worlds.{Actor, IsBegunAs, World, asking, ended, fresh, with_actor}
 use Rattle.stream_world.specs.EventViews.{IsMetAs, event_view}
 use Rattle.stream_world.specs.Paired.{AreOwned, IsOfKind, IsOwned, job_begun, job_going_on, out_of, outs_told}
@@ -371,6 +371,7 @@ handed_in first _ _ _ _ _ _ (then_one seen told met outs was w event next one ou
 pub headline_of_more : (met events : List Event) (outs : List (Job × Outcome)) (schema : Schema) (entries : List Entry) → ((job : Job) → WasBegun met job → WasBegun events job)
     → IsHeadline met outs schema entries → IsHeadline events outs schema entries
 headline_of_more met events outs schema entries handed headline = record {
+  created = created_by entries headline.created;
   once = headline.once;
   lawful = headline.lawful;
   acknowledged = λ job end has acknowledges. let one = headline.acknowledged job end has acknowledges in (handed (streams job) one.0, one.1, one.2, one.3);
@@ -379,6 +380,10 @@ headline_of_more met events outs schema entries handed headline = record {
   parts = headline.parts;
   handed = headline.handed;
 }
+  where
+    created_by : (those : List Entry) → WasCreated met schema those → WasCreated events schema those
+    created_by [] created = tt
+    created_by (first ∷ rest) (job, begun, reads_as) = (job, handed (creates job) begun, reads_as)
 
 module _ {S : Type 0} (objects : S → Objects) (first : Objects) (seen : List code_event.Event) (told : List (Option code_end.JobEnd)) (world : code_world.World S) (was : HasRun objects first seen told world) (nothing : first ≡ []) where
   from_nothing : HasRun objects [] seen told world

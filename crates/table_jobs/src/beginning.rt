@@ -1,12 +1,17 @@
 //! The session that does a job.
-ghost use Rattle.std.specs.Prelude.{◌≡◌, [], None, false};
+ghost use Rattle.std.specs.Prelude.{◌≡◌, [], None, false, map};
 ghost use Rattle.store_core.specs.Objects.{Objects};
+ghost use Rattle.log_offsets.specs.Offsets.{offset_view};
 ghost use Rattle.log_reading.specs.LogCache.{IsCacheOf};
+ghost use Rattle.log_reading.specs.Logs.{version_of};
 ghost use Rattle.table_log.specs.Loads.{IsFront};
 ghost use Rattle.table_log.specs.declared.load_session.LoadStage.TheVariants as load_stages;
 ghost use Rattle.sink_core.specs.SinkFits.{SinkFits};
 ghost use Rattle.sink_core.specs.SinkSessions as sinks;
 ghost use Rattle.sink_core.specs.declared.sink_state.SinkStage.TheVariants as sink_stages;
+ghost use Rattle.source_core.specs.SourceSessions as sources;
+ghost use Rattle.source_core.specs.SourceSessions.{SourceFits};
+ghost use Rattle.source_core.specs.declared.source_session.SourceStage.TheVariants as source_stages;
 ghost use Rattle.session_core.specs.Talks.{Bears, Talk};
 ghost use Rattle.table_jobs.specs.Jobs.{CanBegin, IsValidJob, streams};
 ghost use Rattle.table_jobs.specs.Sessions.{SessionFits, awaited, is_ended, job_of};
@@ -18,7 +23,7 @@ use commit_core::CreateSession;
 use log_reading::{Log, LogCache};
 use sink_core::{SinkSession, SinkTask};
 use snapshot_core::CheckpointSession;
-use source_core::SourceSession;
+use source_core::{Offset, SourceSession};
 use std::alloc::Global;
 use std::mem;
 use table_log::{LoadSession, Loaded};
@@ -54,40 +59,54 @@ impl<'r> JobSession<'r> {
             Job::Create(Creation { id, at, schema }) => {
                 JobSession::Create(CreateSession::new(alloc, id, at, schema))
             }
-            Job::Load { use_checkpoints } => JobSession::Load(LoadSession::new(
-                alloc,
-                use_checkpoints,
-                mem::replace(&mut cache.loaded, Loaded::new(alloc)),
-            )),
-            Job::Checkpoint { use_checkpoints } => JobSession::Checkpoint(CheckpointSession::new(
-                alloc,
-                use_checkpoints,
-                mem::replace(&mut cache.loaded, Loaded::new(alloc)),
-            )),
+            Job::Load { use_checkpoints } => {
+                let known = take_loaded(alloc, cache);
+                JobSession::Load(LoadSession::new(alloc, use_checkpoints, known))
+            }
+            Job::Checkpoint { use_checkpoints } => {
+                let known = take_loaded(alloc, cache);
+                JobSession::Checkpoint(CheckpointSession::new(alloc, use_checkpoints, known))
+            }
             Job::Stream(job) => {
-                let known = mem::replace(&mut cache.loaded, Loaded::new(alloc));
+                let known = take_loaded(alloc, cache);
                 JobSession::Stream(stream_session(alloc, job, known))
             }
             Job::Read {
                 place,
                 max,
                 use_checkpoints,
-            } => {
-                let known = mem::replace(&mut cache.log, Log::new(alloc));
-                let file = cache.file.take();
-                let schema = cache.schema.take();
-                JobSession::Read(SourceSession::read(
-                    alloc,
-                    place,
-                    max,
-                    use_checkpoints,
-                    known,
-                    file,
-                    schema,
-                ))
-            }
+            } => JobSession::Read(read_session(alloc, place, max, use_checkpoints, cache)),
         }
     }
+}
+
+/// Takes what was loaded out of what is known.
+fn take_loaded(alloc: Global, cache: &mut LogCache) -> Loaded
+    ensures loaded { result ≡ cache.old.loaded }
+    ensures cache { (objects : Objects) → IsCacheOf objects cache.old → IsCacheOf objects cache.new }
+    ensures rest { (cache.new.log ≡ cache.old.log) × (cache.new.file ≡ cache.old.file) × (cache.new.schema ≡ cache.old.schema) }
+{
+    mem::replace(&mut cache.loaded, Loaded::new(alloc))
+}
+
+/// The session of a read, which takes what was read, the file and the schema out of what is known.
+fn read_session(
+    alloc: Global,
+    place: Offset,
+    max: u64,
+    use_checkpoints: bool,
+    cache: &mut LogCache,
+) -> SourceSession
+    ensures job { sources.job_of result ≡ record { place = offset_view place; max = max; use_checkpoints = use_checkpoints; known = map version_of cache.old.log.standing.items } }
+    ensures stage { result.stage ≡ source_stages.New }
+    ensures fits { (before : Talk) → ((objects : Objects) → Bears objects before → IsCacheOf objects cache.old) → SourceFits before result [] None }
+    ensures rest { cache.new.loaded ≡ cache.old.loaded }
+    ensures cache { (objects : Objects) → IsCacheOf objects cache.old → IsCacheOf objects cache.new }
+{
+    let known = mem::replace(&mut cache.log, Log::new(alloc));
+    let file = cache.file.take();
+    let schema = cache.schema.take();
+    SourceSession::read(alloc, place, max, use_checkpoints, known, file, schema)
 }
 
 /// The session of an append or a close, which knows this of the log.

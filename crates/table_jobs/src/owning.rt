@@ -2,7 +2,7 @@
 ghost use Rattle.std.specs.Prelude.{◌≡◌, IfOk, Ok};
 ghost use Rattle.json_text.specs.Rows.{rows_data};
 ghost use Rattle.sink_core.specs.SinkSessions.{sink_task_view};
-ghost use Rattle.table_jobs.specs.Views.{job_view};
+ghost use Rattle.table_jobs.specs.Views.{job_view, stream_view};
 
 use crate::job::{Job, StreamJob};
 use json_text::{ArrayText, JsonRows};
@@ -19,23 +19,7 @@ impl Job<'_> {
             Job::Create(job) => Ok(Job::Create(job)),
             Job::Load { use_checkpoints } => Ok(Job::Load { use_checkpoints }),
             Job::Checkpoint { use_checkpoints } => Ok(Job::Checkpoint { use_checkpoints }),
-            Job::Stream(job) => {
-                let StreamJob {
-                    application,
-                    task,
-                    at,
-                    tries,
-                    use_checkpoints,
-                } = job;
-                let task = owned_task(task)?;
-                Ok(Job::Stream(StreamJob {
-                    application,
-                    task,
-                    at,
-                    tries,
-                    use_checkpoints,
-                }))
-            }
+            Job::Stream(job) => Ok(Job::Stream(owned_stream(job)?)),
             Job::Read {
                 place,
                 max,
@@ -47,6 +31,26 @@ impl Job<'_> {
             }),
         }
     }
+}
+
+fn owned_stream(job: StreamJob<'_>) -> Result<StreamJob<'static>, AllocError>
+    ensures { IfOk result (λ owned. stream_view owned ≡ stream_view job.entry) }
+{
+    let StreamJob {
+        application,
+        task,
+        at,
+        tries,
+        use_checkpoints,
+    } = job;
+    let task = owned_task(task)?;
+    Ok(StreamJob {
+        application,
+        task,
+        at,
+        tries,
+        use_checkpoints,
+    })
 }
 
 fn owned_task(task: SinkTask<'_>) -> Result<SinkTask<'static>, AllocError>
