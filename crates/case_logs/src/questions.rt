@@ -26,6 +26,7 @@
 //! - `closed` and `stream APP`: the applications whose streams are closed, a line each, and whether that one is;
 //! - `sizes`: how many applications, domains, files, and files that left the table there are;
 //! - `read` and `write`: the schema's text, or why the table isn't read or written;
+//! - `schema`: the same whatever the protocol asks, or why there is none;
 //! - `checkpoint V`: the name and the lines of that version's checkpoint;
 //! - `put`: whether a checkpoint is put, or why it isn't;
 //! - `name NAME`: the version whose checkpoint has that name;
@@ -79,6 +80,7 @@ fn answer(log: &mut Growing, word: &str, rest: &str, told: &mut Transcript) {
         "again" => log.print_and_restore(rest, told),
         "read" => tell_schema("schema", snapshot.supports_read(told.alloc), told),
         "write" => tell_schema("schema", snapshot.supports_write(told.alloc), told),
+        "schema" => tell_schema("schema", snapshot.schema(told.alloc), told),
         "put" => tell_put(snapshot.supports_checkpoint(told.alloc), told),
         "checkpoint" => tell_checkpoint(snapshot, rest, told),
         "name" => tell_version(rest, told),

@@ -56,10 +56,10 @@ pub record WritesScript (use_checkpoints : Bool) (text : List ℕ) (is_short : B
   -- Where it has actors, each of its lines does what it asks for in a world, and is told that; it is short just where one
   -- of them is.
   pub plays : needs_world text ≡ true → TellsWhole before after (IsPlayedOver use_checkpoints text is_short)
-  -- Where none of them puts another tool's commit, what is told there is so of the table that stands then: each batch that
-  -- was acknowledged stands in the log once, every batch at most once and as submitted, each application's in rising number
-  -- and none after its close; and what a reader was handed that resumes at its last offset is exactly the log's rows up to
-  -- that offset, once each, in log order.
+  -- Where none of them puts another tool's commit, there is a table, that of some sound store, of which what is told there
+  -- is so: each batch that was acknowledged stands in its log once, every batch at most once and as submitted, each
+  -- application's in rising number and none after its close; and what a reader was handed that resumes at its last offset
+  -- is exactly that log's rows up to the offset, once each, in log order.
   pub headline : needs_world text ≡ true → ArePutHere (lines_of text) → TellsWhole before after (IsToldOfTable use_checkpoints text)
   -- The same of the world to which its lines led.
   pub worlds : needs_world text ≡ true → ArePutHere (lines_of text) → TellsWhole before after (IsPlayedSo use_checkpoints text)
