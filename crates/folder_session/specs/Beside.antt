@@ -1,13 +1,16 @@
 -- What stands once objects are put beside those of a folder, and how a session was driven over both.
-use Rattle.std.specs.Prelude.{◌≡◌, ◌⊎◌, ◌≤◌, ◌+◌, ◌++◌, ℕ, Bool, false, List, [], ◌∷◌, Contains, None, Some, Option, IsSome, length}
+use Rattle.std.specs.Prelude.{◌≡◌, ◌⊎◌, ◌≤◌, ◌+◌, ◌++◌, ℕ, Bool, false, List, [], ◌∷◌, Contains, None, Some, Option, IsSome, Result, IfOk, MatchResult, length}
 use Rattle.store_core.specs.Calls.{put_told}
+use Rattle.store_core.specs.Memory.{stored_objects}
 use Rattle.store_core.specs.Names.{commit_name}
 use Rattle.store_core.specs.Objects.{Objects, names_of, object_at, with_object}
 use Rattle.store_core.specs.declared.store.Put.TheVariants.{Created, Exists}
 use Rattle.session_core.specs.Sessions.{AllAsked, Drives}
 use Rattle.session_core.specs.Talks.{Asked, Talk, Told, get_object, has_lost, heard, list_names, put_commit, put_file, told_memory, told_names, told_object, told_put}
 use Rattle.table_folder.specs.Copies.{with_copies}
-use Rattle.table_folder.specs.Traces.{FolderCall, finds, lists, reads}
+use Rattle.table_folder.specs.Traces.{FolderCall, MakeNone, finds, lists, reads}
+use Rattle.table_folder.specs.declared.fault.LoadFault.{LoadFault}
+use Rattle.folder_session.specs.declared.beside.Beside.{Beside}
 
 -- the objects, with those that stand beside them; what is among both keeps its bytes
 abbrev pub with_beside : (objects added : Objects) → Objects
@@ -22,6 +25,10 @@ AreApart objects added = (name : List ℕ) → IsSome (object_at added name) →
 pub record DrivesBeside {J O : Type 0} (asks : J → (before talk : Talk) → Asked → Type 0) (ends : J → (before talk : Talk) → O → Type 0) (lost : O → Bool) (job : J) (most : ℕ) (before : Talk) (outcome : O) (objects added : Objects) : Type 0 where
   pub drives : Drives asks ends lost (λ talk. Unit {0}) (Unit {0}) job most before outcome (objects, []) (with_beside objects added, []) 0 0
   pub apart : AreApart objects added
+
+-- where it ended, whatever talk was before, of which it is so
+abbrev pub EndsOver : {J O : Type 0} → (asks : J → (before talk : Talk) → Asked → Type 0) → (ends : J → (before talk : Talk) → O → Type 0) → (lost : O → Bool) → (fits : Talk → Type 0) → (job : J) → (most : ℕ) → Objects → Result (Beside O) LoadFault → Type 0
+EndsOver asks ends lost fits job most objects result = (before : Talk) → fits before → IfOk result (λ ended. DrivesBeside asks ends lost job most before ended.outcome objects (stored_objects ended.added))
 
 -- ---- over any folder
 
@@ -101,6 +108,13 @@ pub record TalksBeside {J O : Type 0} (asks : J → (before talk : Talk) → Ask
   pub calls : List FolderCall
   pub heard : HearsAll names [] talk calls
   pub made : makes (lists (Some names) ∷ calls)
+
+-- What comes of a session over any folder, whoever else writes into it: it was driven by a talk of its own, in which it was told what the
+-- folder's calls told, and just what its puts created is handed back. No other call is made of the folder. Where it fails, these calls
+-- made no file.
+abbrev pub EndsBeside : {J O : Type 0} → (asks : J → (before talk : Talk) → Asked → Type 0) → (ends : J → (before talk : Talk) → O → Type 0) → (makes : List FolderCall → Type 0) → (fits : Talk → Type 0) → (job : J) → (most : ℕ) → Result (Beside O) LoadFault → Type 0
+EndsBeside asks ends makes fits job most result =
+    MatchResult result (λ ended. (before : Talk) → fits before → TalksBeside asks ends makes job most before ended.outcome (stored_objects ended.added)) (λ _. (calls : List FolderCall) × makes calls × MakeNone calls)
 
 -- so far, up to an answer that it hasn't taken
 pub record IsTalking {N : Type 0} (fits : N → Talk → Option Asked → Type 0) (left : N → ℕ) (asks : Talk → Asked → Type 0) (makes : List FolderCall → Type 0) (names : List (List ℕ)) (first session : N) (reply : Option Told) (added : Objects) : Type 0 where

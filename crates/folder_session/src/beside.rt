@@ -1,6 +1,6 @@
 //! A session that puts something, driven over a folder: what it puts is kept in memory beside the folder, which is left
 //! as it is.
-ghost use Rattle.std.specs.Prelude.{◌≡◌, List, [], false, true, None, IfErr, IfOk, MatchResult, option_map};
+ghost use Rattle.std.specs.Prelude.{◌≡◌, List, [], false, true, None, IfErr, IfOk, option_map};
 ghost use Rattle.std.specs.String.{string_bytes};
 ghost use Rattle.session_core.specs.Stores.{Answers, AnswersPut};
 ghost use Rattle.session_core.specs.Talks.{IsAnswerOf, Talk, asked_view, fault_reply, get_object, getting, is_lost, kind_of, list_names, listing, putting, told_view};
@@ -9,7 +9,7 @@ ghost use Rattle.store_core.specs.Memory.{stored_objects};
 ghost use Rattle.store_core.specs.Objects.{Objects, names_of, object_at};
 ghost use Rattle.table_folder.specs.Faults.{CountsLoad, IsNotLoaded};
 ghost use Rattle.table_folder.specs.Traces.{FolderCall, MakeNone, Traced};
-ghost use Rattle.folder_session.specs.Beside.{AreApart, DrivesBeside, HearsCall, HearsPut, IsOpened, TalksBeside, put_named, put_so, with_beside};
+ghost use Rattle.folder_session.specs.Beside.{AreApart, EndsBeside, EndsOver, HearsCall, HearsPut, IsOpened, put_named, put_so, with_beside};
 ghost use Rattle.folder_session.specs.Looking.{OnlyLooks};
 
 use crate::asking::listed_as;
@@ -188,14 +188,8 @@ pub fn drive_beside<F: Folder, N: Session>(
     requires new { N.awaits session.old ≡ None }
     requires unended { N.done session.old ≡ false }
     // Over a steady folder it was driven as over a store in memory that has the folder's objects.
-    ensures driven { F.is_steady folder.old → (before : Talk) → N.fits before session.old [] None
-        → IfOk result (λ ended. DrivesBeside N.asks N.ends N.lost (N.job session.old) (N.left session.old) before ended.outcome (F.objects folder.old) (stored_objects ended.added)) }
-    // Over any folder, whoever else writes into it, it was driven by a talk of its own, in which it was told what the
-    // folder's calls told, and just what its puts created is handed back. No other call is made of the folder. Where it
-    // fails, these calls made no file.
-    ensures talks { MatchResult result
-        (λ ended. (before : Talk) → N.fits before session.old [] None → TalksBeside N.asks N.ends (λ calls. Traced F.makes folder.old calls folder.new) (N.job session.old) (N.left session.old) before ended.outcome (stored_objects ended.added))
-        (λ _. (calls : List FolderCall) × Traced F.makes folder.old calls folder.new × MakeNone calls) }
+    ensures driven { F.is_steady folder.old → EndsOver N.asks N.ends N.lost (λ before. N.fits before session.old [] None) (N.job session.old) (N.left session.old) (F.objects folder.old) result }
+    ensures talks { EndsBeside N.asks N.ends (λ calls. Traced F.makes folder.old calls folder.new) (λ before. N.fits before session.old [] None) (N.job session.old) (N.left session.old) result }
     ensures ended { IfOk result (λ ended. N.done session.new ≡ true) }
     ensures never_lost { IfOk result (λ ended. N.lost ended.outcome ≡ false) }
     ensures same { N.job session.new ≡ N.job session.old }

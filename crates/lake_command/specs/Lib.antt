@@ -7,6 +7,7 @@ pub mod Endings
 pub mod Looks
 pub mod Scripts
 pub mod Checks
+pub mod Commands
 pub mod Explaining
 pub mod Counts
 pub mod Codes

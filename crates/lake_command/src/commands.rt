@@ -1,17 +1,14 @@
 //! One command, from its words to its exit status.
-ghost use Rattle.std.specs.Prelude.{◌≡◌, ◌≢◌, ℕ, Bool, List, [], map, IfOk, true};
-ghost use Rattle.clap.specs.Words.{fault_of, kind_of};
-ghost use Rattle.lake_words.specs.declared.command.Command.{Command};
+ghost use Rattle.std.specs.Prelude.{◌≡◌, map, IfOk, true};
+ghost use Rattle.clap.specs.Words.{kind_of};
 ghost use Rattle.lake_command.specs.Status.{status_of, status_of_kind};
 ghost use Rattle.lake_script.specs.Streams.{unread, read_failed};
-ghost use Rattle.lake_words.specs.Asked.{Spells, Work, check, explain, table};
-ghost use Rattle.lake_words.specs.Spelling.{SpellsJob};
+ghost use Rattle.lake_words.specs.Asked.{work_view};
 ghost use Rattle.lake_command.specs.Checks.{ChecksDisk};
-ghost use Rattle.lake_command.specs.Endings.{AreCallsAt, AreMisread, EndsDiskJob};
+ghost use Rattle.lake_command.specs.Commands.{DoesCommand};
+ghost use Rattle.lake_command.specs.Endings.{AreCallsAt, EndsDiskJob};
 ghost use Rattle.lake_command.specs.ErrorTexts.{IsEndTold};
-ghost use Rattle.lake_command.specs.Explaining.{Explains};
-ghost use Rattle.lake_command.specs.Scripts.{EndsScript, script_uses_checkpoints};
-ghost use Rattle.lake_words.specs.Words.{commands};
+ghost use Rattle.lake_command.specs.Scripts.{EndsScript};
 ghost use Rattle.lake_hints.specs.ErrorOutputs.{TellsSome};
 
 use crate::checking::check_command;
@@ -24,7 +21,7 @@ use clap::error::ErrorKind;
 use folder_check::{FolderReader, Progress};
 use lake_hints::{ErrorOutput, tell_bad_line};
 use lake_script::{End, Fault, Input, Output};
-use lake_words::{Command, read_words};
+use lake_words::{Command, TableCommand, read_words};
 use std::alloc::{AllocError, Global};
 use std::convert::AsStr;
 use std::io::{Read, Write};
@@ -127,6 +124,24 @@ fn check_on_disk<H: Files + AllocGlobal + Clone + Drop, P: Progress + Drop, W: W
     }
 }
 
+/// Does a job on the table in a folder on the disk.
+fn table_on_disk<H: Files + AllocGlobal + Clone + Drop, R: Read, W: Write, E: Write>(
+    rt: &H,
+    command: TableCommand<'_>,
+    input: &mut Input<R>,
+    output: &mut Output<W>,
+    err: &mut ErrorOutput<E>,
+) -> Exit
+    ensures { EndsDiskJob W.contents E.contents (AreCallsAt ⟦<DirFolder<H> as Folder>⟧.path ⟦<DirFolder<H> as Folder>⟧.fault_count ⟦<DirFolder<H> as Folder>⟧.makes command.entry.folder.now)
+        command.entry.use_checkpoints (work_view command.entry.job) (unread R.remaining input.old) (read_failed input.new) input.old input.new output.old output.new err.old err.new result }
+{
+    let Ok(folder) = open(rt, command.folder) else {
+        return tell_failure(&Failure::Loading(LoadFault::Memory), output, err);
+    };
+    let mut folder = folder;
+    table_command(rt.alloc(), &mut folder, command, input, output, err)
+}
+
 /// Runs the command that the words ask for: a script over a store in which nothing stands yet, or a job on the table in
 /// a folder on the disk, of which [`table_command`] tells what is claimed over any folder, or a check of one, of which
 /// [`check_command`] does, or it tells what a code means. Replies go to `output`. What `clap` says of the words, the
@@ -147,32 +162,12 @@ pub fn command<
     err: &mut ErrorOutput<E>,
     progress: P,
 ) -> Exit
-    // A script that isn't refused writes what it is told; it is refused for its input, its output or a growth alone.
-    ensures script { (c : Command) → Spells (map S.text words.now) c
-        → EndsScript W.contents E.contents (script_uses_checkpoints c) (unread R.remaining input.old) (read_failed input.new) output.old output.new err.old err.new result }
-    // What comes of a job is told where it belongs, with its status. What it leaves in the folder isn't claimed.
-    ensures job { (folder : List ℕ) (use_checkpoints : Bool) (work : Work) → SpellsJob (map S.text words.now) (table folder use_checkpoints work)
-        → EndsDiskJob W.contents E.contents (AreCallsAt ⟦<DirFolder<H> as Folder>⟧.path ⟦<DirFolder<H> as Folder>⟧.fault_count ⟦<DirFolder<H> as Folder>⟧.makes folder)
-        use_checkpoints work (unread R.remaining input.old) (read_failed input.new) input.old input.new output.old output.new err.old err.new result }
-    // A check leaves the input alone, and tells a verdict with its status, or why it tells none. That it is right of the
-    // folder isn't claimed.
-    ensures checks { (folder : List ℕ) → SpellsJob (map S.text words.now) (check folder) → (input.new ≡ input.old)
-        × ChecksDisk W.contents E.contents ⟦<DirFolder<H> as Folder>⟧.path ⟦<DirFolder<H> as Folder>⟧.fault_count folder output.old output.new err.old err.new result }
-    // What a code means is told, or that no refusal has it.
-    ensures explains { (code : List ℕ) → SpellsJob (map S.text words.now) (explain code) → (input.new ≡ input.old)
-        × Explains W.contents E.contents code output.old output.new err.old err.new result }
-    // Words that can't be read have the status of what is wrong with them, and run nothing.
-    ensures misread { fault_of commands (map S.text words.now) ≢ [] → AreMisread (fault_of commands (map S.text words.now)) input.old input.new output.old output.new result }
+    ensures { DoesCommand ⟦<DirFolder<H> as Folder>⟧.path ⟦<DirFolder<H> as Folder>⟧.fault_count ⟦<DirFolder<H> as Folder>⟧.makes R.remaining W.contents E.contents
+        (map S.text words.now) input.old input.new output.old output.new err.old err.new result }
 {
     let alloc = rt.alloc();
     match read_words(alloc, words) {
-        Ok(Command::Table(command)) => {
-            let Ok(folder) = open(rt, command.folder) else {
-                return tell_failure(&Failure::Loading(LoadFault::Memory), output, err);
-            };
-            let mut folder = folder;
-            table_command(alloc, &mut folder, command, input, output, err)
-        }
+        Ok(Command::Table(command)) => table_on_disk(rt, command, input, output, err),
         Ok(Command::Check { folder }) => check_on_disk(rt, folder, progress, output, err),
         Ok(Command::Explain { code }) => explain_command(code, output, err),
         Ok(Command::Script { use_checkpoints }) => {

@@ -1,10 +1,12 @@
 //! The lines of a text, answered one after the other by whoever does what they ask for.
-ghost use Rattle.std.specs.Prelude.{◌≡◌, ◌≤◌, ◌^◌, ℕ, List, Bool, false, length};
+ghost use Rattle.std.specs.Prelude.{◌≡◌, ◌≤◌, ◌^◌, ℕ, List, Bool, Err, IfOk, OnErr, OnOk, ⊤, false, length, true};
 ghost use Rattle.script_lines.specs.Lines.{IsTimely, Statement, statement_view};
-ghost use Rattle.lake_script.specs.Answered.{AnswersLines, LeadsTo};
+ghost use Rattle.lake_script.specs.Answered.{AnsweredInPart, AnsweredText, AnswersLines, LeadsTo};
 ghost use Rattle.lake_script.specs.Ended.{LeavesOutput};
 ghost use Rattle.lake_script.specs.ReplyView.{replied, replied_short};
-ghost use Rattle.lake_script.specs.Streams.{held};
+ghost use Rattle.lake_script.specs.Runs.{TellsFront, TellsWhole};
+ghost use Rattle.lake_script.specs.Streams.{held, write_failed};
+ghost use Rattle.lake_script.specs.Told.{first_bad};
 
 use crate::outputs::{Output, OutputError};
 use crate::reply::LineReply;
@@ -54,6 +56,54 @@ pub trait Interpreter {
         ensures kept { kept self.new ≡ kept self.old };
 }
 
+/// Answers the lines of a text up to the first bad one, whose number is the result. What they are told may still wait.
+fn answer_each<I: Interpreter, W: Write>(
+    alloc: Global,
+    text: &[u8],
+    interpreter: &mut I,
+    output: &mut Output<W>,
+    is_short: &mut bool,
+) -> Result<Option<u64>, OutputError>
+    requires fits { length text.now ≤ 2 ^ 30 }
+    requires ready { I.is_ready interpreter.old }
+    requires unshort { is_short.old ≡ false }
+    ensures answers { I.is_reliable interpreter.old → (s : I.State) → I.stands interpreter.old s → OnOk result (TellsWhole (held W.contents output.old) (held W.contents output.new)
+        (λ written. LeadsTo (AnsweredText I.does s text.now written is_short.new) (I.stands interpreter.new))) }
+    ensures front { I.is_reliable interpreter.old → (s : I.State) → I.stands interpreter.old s → OnErr result (TellsFront (held W.contents output.old) (W.contents output.new.writer)
+        (λ written. LeadsTo (AnsweredInPart I.does s text.now written is_short.new) (I.stands interpreter.new))) }
+    ensures reliable { I.is_reliable interpreter.old → I.is_reliable interpreter.new }
+    ensures kept { I.kept interpreter.new ≡ I.kept interpreter.old }
+    ensures bad { IfOk result (λ bad. bad ≡ first_bad text.now) }
+    ensures behind { OnOk result (TellsWhole (held W.contents output.old) (held W.contents output.new) (λ written. ⊤)) }
+    ensures unbroken { OnOk result (write_failed output.new ≡ write_failed output.old) }
+    ensures broken { result ≡ Err OutputError.Broken → write_failed output.new ≡ true }
+{
+    let mut number = 1u64;
+    let mut rest = Some(text);
+    let mut scratch = Scratch::new(alloc);
+    while let Some(text) = rest {
+        let (line, after) = first_line(text);
+        match reading_of(alloc, line, &mut scratch, I::OUTLIVES_LINES)? {
+            Reading::Skipped => {}
+            Reading::Bad => {
+                output.say(format_args!("bad line {number}"))?;
+                return Ok(Some(number));
+            }
+            Reading::Asks(line) => {
+                if let Some(reply) = interpreter.do_line(alloc, line) {
+                    if reply.is_short() {
+                        *is_short = true;
+                    }
+                    reply.give(output)?;
+                }
+            }
+        }
+        number += 1;
+        rest = after;
+    }
+    Ok(None)
+}
+
 /// Answers the lines of a text, of at most 1 GiB, up to the first bad one, and writes what waits then. The result is
 /// the number of the bad line that ended it. Where a reply was short, it says so.
 ///
@@ -77,30 +127,7 @@ pub fn answer_lines<I: Interpreter, W: Write>(
     // where it is told so.
     ensures leaves { LeavesOutput W.contents text.now result output.old output.new }
 {
-    let mut number = 1u64;
-    let mut rest = Some(text);
-    let mut scratch = Scratch::new(alloc);
-    while let Some(text) = rest {
-        let (line, after) = first_line(text);
-        match reading_of(alloc, line, &mut scratch, I::OUTLIVES_LINES)? {
-            Reading::Skipped => {}
-            Reading::Bad => {
-                output.say(format_args!("bad line {number}"))?;
-                output.flush()?;
-                return Ok(Some(number));
-            }
-            Reading::Asks(line) => {
-                if let Some(reply) = interpreter.do_line(alloc, line) {
-                    if reply.is_short() {
-                        *is_short = true;
-                    }
-                    reply.give(output)?;
-                }
-            }
-        }
-        number += 1;
-        rest = after;
-    }
+    let bad = answer_each(alloc, text, interpreter, output, is_short)?;
     output.flush()?;
-    Ok(None)
+    Ok(bad)
 }

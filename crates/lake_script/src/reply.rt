@@ -6,7 +6,7 @@ ghost use Rattle.store_core.specs.Objects.{Objects};
 ghost use Rattle.log_reading.specs.LogCache.{IsCacheOf};
 ghost use Rattle.table_log.specs.Restoring.{AreCheckpointsSound, RestoresWell};
 ghost use Rattle.lake_script.specs.AnyStore.{IsToldLost, TellsForeign, lost_to_read};
-ghost use Rattle.script_lines.specs.Lines.{foreign, tail, task, statement_view, IsTimely};
+ghost use Rattle.script_lines.specs.Lines.{foreign, look, look_view, tail, task, statement_view, IsTimely};
 ghost use Rattle.lake_script.specs.CarriedOut.{IsCarriedOut};
 ghost use Rattle.lake_script.specs.Growth.{MayPut};
 ghost use Rattle.lake_script.specs.ReplyView.{reply_text, is_short_reply, says_lost};
@@ -118,16 +118,7 @@ impl LineReply {
         match self {
             LineReply::Created => output.say("Created 0"),
             LineReply::NotCreated(fault) => output.say(RefusalText(fault)),
-            LineReply::SinkTold(SinkOutcome::Committed { version }) => {
-                output.say(format_args!("Committed {version}"))
-            }
-            LineReply::SinkTold(SinkOutcome::Already { number }) => {
-                output.say(format_args!("Already {number}"))
-            }
-            LineReply::SinkTold(SinkOutcome::Closed { version }) => {
-                output.say(format_args!("Closed {version}"))
-            }
-            LineReply::SinkTold(SinkOutcome::AlreadyClosed) => output.say("AlreadyClosed"),
+            LineReply::SinkTold(outcome) => say_outcome(outcome, output),
             LineReply::SinkRefused(fault) => output.say(RefusalText(fault)),
             LineReply::NotTailed(fault) => output.say(RefusalText(fault)),
             LineReply::Checkpointed(version) => output.say(format_args!("Checkpointed {version}")),
@@ -142,6 +133,25 @@ impl LineReply {
             LineReply::Digits(text) => output.say(text.as_str()),
             LineReply::Noted => output.say("ok"),
         }
+    }
+}
+
+/// Tells what became of a batch or a close.
+fn say_outcome<W: Write>(outcome: &SinkOutcome, output: &mut Output<W>) -> Result<(), OutputError>
+    ensures held { OnOk result (Appends (held W.contents output.old) (held W.contents output.new) (reply_text (LineReply.SinkTold outcome.now))) }
+    ensures stands { OnErr result (WritesFront (held W.contents output.old) (W.contents output.new.writer) []) }
+    ensures unbroken { OnOk result (write_failed output.new ≡ write_failed output.old) }
+    ensures broken { result ≡ Err OutputError.Broken → write_failed output.new ≡ true }
+    ensures memory { result ≡ Err OutputError.Memory → write_failed output.new ≡ write_failed output.old }
+    // Where a growth is refused, nothing of the reply waits.
+    ensures whole { result ≡ Err OutputError.Memory → Appends (held W.contents output.old) (held W.contents output.new) [] }
+    ensures waits { result ≡ Err OutputError.Memory → (waiting output.new ≡ waiting output.old) ⊎ (waiting output.new ≡ []) }
+{
+    match outcome {
+        SinkOutcome::Committed { version } => output.say(format_args!("Committed {version}")),
+        SinkOutcome::Already { number } => output.say(format_args!("Already {number}")),
+        SinkOutcome::Closed { version } => output.say(format_args!("Closed {version}")),
+        SinkOutcome::AlreadyClosed => output.say("AlreadyClosed"),
     }
 }
 
@@ -166,8 +176,47 @@ pub fn reply_of_read(told: Result<Vec<u8>, TailFault>) -> LineReply
     }
 }
 
-/// The reply to a line that puts another tool's commit.
-fn put_foreign<S: Store>(alloc: Global, store: &mut S, version: u64, action: &str) -> LineReply
+/// The reply to a line that looks, and leaves the objects as they are.
+fn tell_look<S: Store>(
+    alloc: Global,
+    asked: Look<'_>,
+    store: &mut S,
+    use_checkpoints: bool,
+    cache: &mut LogCache,
+) -> LineReply
+    requires { IsCacheOf (S.objects store.old) cache.old }
+    ensures cache { IsCacheOf (S.objects store.new) cache.new }
+    ensures carried { (tries : ℕ) → IsCarriedOut (S.is_reliable store.old) use_checkpoints tries cache.old.loaded (look (look_view asked.entry)) (reply_text result) (is_short_reply result) (says_lost result)
+        (S.objects store.old, S.in_flight store.old) (S.objects store.new, S.in_flight store.new) (S.fault_count store.old) (S.fault_count store.new) }
+    ensures untouched { S.objects store.new ≡ S.objects store.old }
+    ensures reliable { S.is_reliable store.old → S.is_reliable store.new }
+{
+    match asked {
+        Look::Snapshot => tell_snapshot(alloc, store, use_checkpoints, cache),
+        Look::History => tell_history(alloc, store),
+        Look::Show { version } => show(alloc, store, version),
+        Look::Hex { name } => show_in_hex(alloc, store, name),
+    }
+}
+
+/// Sets how many versions appends and closes try from now on: one at least.
+fn set_tries(tries: &mut u64, count: u64) -> LineReply
+    ensures tries { (1 ≤ tries.new) × (1 ≤ count → tries.new ≡ count) }
+    ensures noted { result ≡ LineReply.Noted }
+{
+    *tries = count.max(1);
+    LineReply::Noted
+}
+
+/// The reply to a line that puts another tool's commit. Nothing is known of the log behind it.
+fn put_foreign<S: Store>(
+    alloc: Global,
+    store: &mut S,
+    version: u64,
+    action: &str,
+    cache: &mut LogCache,
+) -> LineReply
+    ensures cache { IsCacheOf (S.objects store.new) cache.new }
     ensures told { S.is_reliable store.old → Executes (S.objects store.old) (foreign version action.now) (reply_text result) (S.objects store.new) }
     ensures whole { S.is_reliable store.old → is_short_reply result ≡ false → IsExecuted (S.objects store.old) (foreign version action.now) (reply_text result) (S.objects store.new) }
     ensures grows { S.is_reliable store.old → MayPut (S.objects store.old) (foreign version action.now) (S.objects store.new) }
@@ -179,6 +228,7 @@ fn put_foreign<S: Store>(alloc: Global, store: &mut S, version: u64, action: &st
         (S.objects store.old, S.in_flight store.old) (S.objects store.new, S.in_flight store.new) (S.fault_count store.old) (S.fault_count store.new) }
     ensures told_lost { says_lost result ≡ true → IsToldLost (foreign version action.now) (reply_text result) }
 {
+    *cache = LogCache::new(alloc);
     match put_line(alloc, store, version, action) {
         Ok(put) => LineReply::Put(put),
         Err(fault) => LineReply::Unanswered(fault),
@@ -209,19 +259,10 @@ pub fn execute<S: Store>(
     match line {
         Line::Create { id, at, schema } => create_table(alloc, store, id, at, schema, cache),
         Line::Job(job) => run_task(alloc, job, store, *tries, use_checkpoints, cache),
-        Line::Look(Look::Snapshot) => tell_snapshot(alloc, store, use_checkpoints, cache),
-        Line::Look(Look::History) => tell_history(alloc, store),
-        Line::Look(Look::Show { version }) => show(alloc, store, version),
-        Line::Look(Look::Hex { name }) => show_in_hex(alloc, store, name),
-        Line::Foreign { version, action } => {
-            *cache = LogCache::new(alloc);
-            put_foreign(alloc, store, version, action)
-        }
-        Line::Tries { count } => {
-            // A line gives at least one.
-            *tries = count.max(1);
-            LineReply::Noted
-        }
+        Line::Look(asked) => tell_look(alloc, asked, store, use_checkpoints, cache),
+        Line::Foreign { version, action } => put_foreign(alloc, store, version, action, cache),
+        // A line gives at least one.
+        Line::Tries { count } => set_tries(tries, count),
         // Here there are no actors.
         Line::World(_) => LineReply::Refused(Fault::NotYet),
     }

@@ -1,6 +1,6 @@
 //! A column chunk read page by page: the cells of one page at a time are held, and taken from its front.
 
-ghost use Rattle.std.specs.Prelude.{◌≡◌, ℕ, ◌-◌, ◌≤◌, length, take, drop, Ok, Err, IfOk, OnOk, OnErr};
+ghost use Rattle.std.specs.Prelude.{◌≡◌, ℕ, ◌-◌, ◌≤◌, length, [], take, drop, Ok, Err, IfOk, OnOk, OnErr};
 ghost use Rattle.lake_bytes.specs.Hybrid.{values_of};
 ghost use Rattle.shred.specs.Columns as columns;
 ghost use Rattle.shred.specs.Parts.{cut_off};
@@ -192,10 +192,7 @@ impl<'a> ColumnReader<'a> {
         let highest = self.leaf.highest();
         let skipped = present(&before, highest);
         let taken = present(&levels, highest);
-        let mut column = Column {
-            levels: Vec::new(alloc),
-            values: Vec::new(alloc),
-        };
+        let mut column = no_cells(alloc);
         add_levels(&kept, &mut column.levels)?;
         self.values.pass(skipped)?;
         self.values
@@ -206,6 +203,17 @@ impl<'a> ColumnReader<'a> {
             levels,
             kept: column,
         })
+    }
+}
+
+/// A column in which no cell stands yet.
+fn no_cells(alloc: Global) -> Column<Value>
+    ensures levels { result.levels.items ≡ [] }
+    ensures values { result.values.items ≡ [] }
+{
+    Column {
+        levels: Vec::new(alloc),
+        values: Vec::new(alloc),
     }
 }
 

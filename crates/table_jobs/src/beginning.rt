@@ -4,6 +4,8 @@ ghost use Rattle.store_core.specs.Objects.{Objects};
 ghost use Rattle.log_offsets.specs.Offsets.{offset_view};
 ghost use Rattle.log_reading.specs.LogCache.{IsCacheOf};
 ghost use Rattle.log_reading.specs.Logs.{version_of};
+ghost use Rattle.table_log.specs.LoadSessions as loads;
+ghost use Rattle.table_log.specs.LoadSessions.{LoadFits, load_job};
 ghost use Rattle.table_log.specs.Loads.{IsFront};
 ghost use Rattle.table_log.specs.declared.load_session.LoadStage.TheVariants as load_stages;
 ghost use Rattle.sink_core.specs.SinkFits.{SinkFits};
@@ -60,17 +62,13 @@ impl<'r> JobSession<'r> {
                 JobSession::Create(CreateSession::new(alloc, id, at, schema))
             }
             Job::Load { use_checkpoints } => {
-                let known = take_loaded(alloc, cache);
-                JobSession::Load(LoadSession::new(alloc, use_checkpoints, known))
+                JobSession::Load(load_session(alloc, use_checkpoints, cache))
             }
             Job::Checkpoint { use_checkpoints } => {
                 let known = take_loaded(alloc, cache);
                 JobSession::Checkpoint(CheckpointSession::new(alloc, use_checkpoints, known))
             }
-            Job::Stream(job) => {
-                let known = take_loaded(alloc, cache);
-                JobSession::Stream(stream_session(alloc, job, known))
-            }
+            Job::Stream(job) => JobSession::Stream(stream_session(alloc, job, cache)),
             Job::Read {
                 place,
                 max,
@@ -87,6 +85,19 @@ fn take_loaded(alloc: Global, cache: &mut LogCache) -> Loaded
     ensures rest { (cache.new.log ≡ cache.old.log) × (cache.new.file ≡ cache.old.file) × (cache.new.schema ≡ cache.old.schema) }
 {
     mem::replace(&mut cache.loaded, Loaded::new(alloc))
+}
+
+/// The session of a load, which takes what was loaded out of what is known.
+fn load_session(alloc: Global, use_checkpoints: bool, cache: &mut LogCache) -> LoadSession
+    ensures job { loads.job_of result ≡ load_job use_checkpoints cache.old.loaded }
+    ensures stage { result.stage ≡ load_stages.New }
+    ensures known { result.known ≡ cache.old.loaded }
+    ensures fits { (before : Talk) → ((objects : Objects) → Bears objects before → IsFront objects cache.old.loaded) → LoadFits before result [] None }
+    ensures rest { (cache.new.log ≡ cache.old.log) × (cache.new.file ≡ cache.old.file) × (cache.new.schema ≡ cache.old.schema) }
+    ensures cache { (objects : Objects) → IsCacheOf objects cache.old → IsCacheOf objects cache.new }
+{
+    let known = take_loaded(alloc, cache);
+    LoadSession::new(alloc, use_checkpoints, known)
 }
 
 /// The session of a read, which takes what was read, the file and the schema out of what is known.
@@ -109,14 +120,17 @@ fn read_session(
     SourceSession::read(alloc, place, max, use_checkpoints, known, file, schema)
 }
 
-/// The session of an append or a close, which knows this of the log.
-fn stream_session<'r>(alloc: Global, job: StreamJob<'r>, known: Loaded) -> SinkSession<'r>
-    ensures job { sinks.job_of result ≡ record (stream_view job.entry) { load = known_load known (stream_view job.entry).load } }
+/// The session of an append or a close, which takes what was loaded out of what is known.
+fn stream_session<'r>(alloc: Global, job: StreamJob<'r>, cache: &mut LogCache) -> SinkSession<'r>
+    ensures job { sinks.job_of result ≡ record (stream_view job.entry) { load = known_load cache.old.loaded (stream_view job.entry).load } }
     ensures stage { result.stage ≡ sink_stages.Loading }
     ensures load { result.load.stage ≡ load_stages.New }
-    ensures fits { (before : Talk) → ((objects : Objects) → Bears objects before → IsFront objects known) → SinkFits before result [] None }
+    ensures fits { (before : Talk) → ((objects : Objects) → Bears objects before → IsFront objects cache.old.loaded) → SinkFits before result [] None }
     ensures valid { IsValidJob (streams (stream_view job.entry)) }
+    ensures rest { (cache.new.log ≡ cache.old.log) × (cache.new.file ≡ cache.old.file) × (cache.new.schema ≡ cache.old.schema) }
+    ensures cache { (objects : Objects) → IsCacheOf objects cache.old → IsCacheOf objects cache.new }
 {
+    let known = take_loaded(alloc, cache);
     let StreamJob {
         application,
         task,

@@ -104,7 +104,9 @@ pub data ToldByText (use_checkpoints : Bool) (text : List ℕ) : (written : List
       → ToldByLines use_checkpoints lines written b handed outs → ToldByText use_checkpoints text (written ++ bad_line (length lines + 1)) handed outs
 
 -- What a text was told is so of the table that these objects hold: the headline holds, for the jobs that the text's lines handed in and for what was told, each of the
--- job of its line or of the one that its actor began last. Who began a job doesn't matter.
+-- job of its line or of the one that its actor began last. Who began a job doesn't matter. So each batch that was acknowledged stands in the log once, every batch at
+-- most once and as submitted, each application's in rising number and none after its close; and what a reader was handed that resumes at its last offset is exactly the
+-- log's rows up to that offset, once each, in log order.
 pub record IsTextSo (use_checkpoints : Bool) (text written : List ℕ) (objects : Objects) : Type 0 where
   pub handed : List Job
   pub outs : List (Job × Outcome)

@@ -1,9 +1,10 @@
 -- What a run of a text comes to in a world, and how a run ends its input.
-use Rattle.std.specs.Prelude.{◌≡◌, ◌<◌, ◌≤◌, ◌⊎◌, ℕ, Bool, true, List, [], Option, IfSome, length}
+use Rattle.std.specs.Prelude.{◌≡◌, ◌<◌, ◌≤◌, ◌⊎◌, ℕ, Bool, true, false, List, [], Option, IfSome, length}
 use Rattle.delta_actions.specs.Commit.{lines_of}
 use Rattle.store_core.specs.Objects.{Objects}
 use Rattle.lake_script.specs.Runs.{TellsWhole}
-use Rattle.lake_script.specs.Streams.{read_failed, unread}
+use Rattle.lake_script.specs.Streams.{held, read_failed, unread}
+use Rattle.lake_script.specs.TextRuns.{IsTextRun}
 use Rattle.lake_script.specs.Told.{ArePutHere, Finishes, fell_short, first_bad}
 use Rattle.lake_script.specs.declared.engine.End.TheVariants.{NotRead}
 use Rattle.lake_script.specs.declared.engine.Outcome.{Outcome}
@@ -12,6 +13,7 @@ use Rattle.lake_script.specs.declared.inputs.TheConstants.{MOST_BYTES, MOST_READ
 use Rattle.lake_script.specs.declared.outputs.Output.{Output}
 use Rattle.world_script.specs.Playing.{PlaysInPart, PlaysShort, PlaysSo, StaysSo}
 use Rattle.world_script.specs.Scenes.{first_scene}
+use Rattle.world_script.specs.Words.{needs_world}
 
 -- What a text comes to that is run in a world, over a store that loses no call: by what was held before and what the
 -- writer holds then, and by the objects in front of it and behind it.
@@ -28,6 +30,14 @@ pub record IsWorldRun (use_checkpoints : Bool) (text : List ℕ) (outcome : Outc
   pub worlds : before ≡ [] → ArePutHere (lines_of text) → Finishes outcome.end (λ _. TellsWhole old new (λ written. PlaysSo (first_scene [] use_checkpoints) text written after))
   -- The store is sound however it ends.
   pub sound : before ≡ [] → ArePutHere (lines_of text) → StaysSo (first_scene [] use_checkpoints) text after
+
+-- What any text comes to, over a store that loses no call.
+pub record IsRunOf {W S : Type 0} (contents : W → Option (List ℕ)) (objects : S → Objects) (use_checkpoints : Bool) (text : List ℕ) (outcome : Outcome) (old new : Output W) (before after : S) : Type 0 where
+  -- Without actors: what is written is what is told for it, to the byte.
+  pub plain : needs_world text ≡ false → IsTextRun use_checkpoints text outcome (held contents old) (contents new.writer) (objects before) (objects after)
+  -- With actors: each line does what it asks for in a world, and is told that; over nothing, and without another tool's
+  -- commit, what sessions told is so of the table that the store holds, and the store is sound however the run ends.
+  pub played : needs_world text ≡ true → IsWorldRun use_checkpoints text outcome (held contents old) (contents new.writer) (objects before) (objects after)
 
 -- How a run ends that reads its input first, whatever the store does.
 pub record EndsInput {R W S : Type 0} (remaining : R → Option (List ℕ)) (outcome : Outcome) (input input_new : Input R) (output output_new : Output W) (before after : S) : Type 0 where

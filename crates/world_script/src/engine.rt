@@ -41,15 +41,10 @@ pub fn play<S: Store, W: Write>(
     use_checkpoints: bool,
 ) -> Ran<S>
     requires { length text.now ≤ 2 ^ 30 }
-    // Over a store that loses no call each line does what it asks for in a world, and is told that; over nothing, and
-    // without another tool's commit, what sessions told is so of the table that the store holds, and the store is sound
-    // however the run ends.
+    // Over a store that loses no call each line does what it asks for in a world, and is told that.
     ensures played { S.is_reliable store → IsWorldRun use_checkpoints text.now result.outcome (held W.contents output.old) (W.contents output.new.writer) (S.objects store) (S.objects result.store) }
     // The sentence, where the run finishes and the writer tells its bytes: where nothing stood, and no line puts another
-    // tool's commit, what the text's jobs told, by its lines and the replies alone, is so of the table that the store
-    // holds: each batch that was acknowledged stands in the log once, every batch at most once and as submitted, each
-    // application's in rising number and none after its close; and what a reader was handed that resumes at its last
-    // offset is exactly the log's rows up to that offset, once each, in log order.
+    // tool's commit, what the text's jobs told, by its lines and the replies alone, is so of the table that is left.
     ensures headline { S.is_reliable store → S.objects store ≡ [] → ArePutHere (lines_of text.now) → Finishes result.outcome.end (λ _. TellsWhole (held W.contents output.old) (W.contents output.new.writer)
         (λ written. IsTextSo use_checkpoints text.now written (S.objects result.store))) }
     ensures reliable { S.is_reliable store → S.is_reliable result.store }

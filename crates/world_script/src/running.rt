@@ -3,12 +3,12 @@ ghost use Rattle.std.specs.Prelude.{◌≡◌, ◌≢◌, ◌≤◌, ◌^◌, []
 ghost use Rattle.delta_actions.specs.Commit.{lines_of};
 ghost use Rattle.lake_script.specs.Runs.{TellsWhole};
 ghost use Rattle.lake_script.specs.Streams.{held, unread};
-ghost use Rattle.lake_script.specs.TextRuns.{EndsOutput, EndsText, IsTextRun};
-ghost use Rattle.lake_script.specs.Told.{ArePutHere, Finishes};
+ghost use Rattle.lake_script.specs.TextRuns.{EndsOutput, EndsText};
+ghost use Rattle.lake_script.specs.Told.{ArePutHere, Finishes, fell_short};
 ghost use Rattle.world_script.specs.ByLines.{IsTextSo};
 ghost use Rattle.world_script.specs.KeptLines.{IsBadKept, IsKeptOf};
 ghost use Rattle.world_script.specs.Words.{needs_world};
-ghost use Rattle.world_script.specs.WorldRuns.{EndsInput, IsWorldRun};
+ghost use Rattle.world_script.specs.WorldRuns.{EndsInput, IsRunOf};
 
 use crate::engine::{Ran, play};
 use crate::words::needs_world;
@@ -28,14 +28,8 @@ pub fn run_any<S: Store, W: Write>(
     use_checkpoints: bool,
 ) -> Ran<S>
     requires { length text.now ≤ 2 ^ 30 }
-    // Of a text without actors: what is written is what is told for it, to the byte, as `run_text` has it.
-    ensures plain { needs_world text.now ≡ false → S.is_reliable store
-        → IsTextRun use_checkpoints text.now result.outcome (held W.contents output.old) (W.contents output.new.writer) (S.objects store) (S.objects result.store) }
-    // Of one with actors: each line does what it asks for in a world, and is told that; over nothing, and without
-    // another tool's commit, what sessions told is so of the table that the store holds, and the store is sound however
-    // the run ends. All of this as `play` has it.
-    ensures played { needs_world text.now ≡ true → S.is_reliable store
-        → IsWorldRun use_checkpoints text.now result.outcome (held W.contents output.old) (W.contents output.new.writer) (S.objects store) (S.objects result.store) }
+    // What is told and left: of a text without actors as `run_text` has it, of one with actors as `play` does.
+    ensures runs { S.is_reliable store → IsRunOf W.contents S.objects use_checkpoints text.now result.outcome output.old output.new store result.store }
     ensures headline { needs_world text.now ≡ true → S.is_reliable store → S.objects store ≡ [] → ArePutHere (lines_of text.now) → Finishes result.outcome.end (λ _. TellsWhole (held W.contents output.old) (W.contents output.new.writer)
         (λ written. IsTextSo use_checkpoints text.now written (S.objects result.store))) }
     // Of any text.
@@ -86,6 +80,20 @@ fn bad_line(alloc: Global, text: &[u8], end: End) -> Option<Vec<u8>>
     Vec::from_slice(alloc, kept_part(line)).ok()
 }
 
+/// A run whose input wasn't read to its end, over a store that is as it was.
+fn not_run<S: Store>(error: InputError, store: S) -> Ran<S>
+    ensures end { result.outcome.end ≡ End.NotRead }
+    ensures short { error ≡ InputError.Memory → fell_short result.outcome ≡ true }
+    ensures store { result.store ≡ store }
+    ensures unkept { result.bad ≡ None }
+{
+    Ran {
+        outcome: Outcome::new(End::NotRead, error == InputError::Memory),
+        store,
+        bad: None,
+    }
+}
+
 /// Runs a script over a store, which it hands back: reads its input to the end, then answers each line, up to the first
 /// bad one, as [`run_any`] does.
 pub fn run<R: Read, W: Write, S: Store>(
@@ -96,10 +104,8 @@ pub fn run<R: Read, W: Write, S: Store>(
     use_checkpoints: bool,
 ) -> Ran<S>
     // Once its input was read, and where the reader tells its bytes, all of what `run_any` says of the text.
-    ensures plain { result.outcome.end ≢ End.NotRead → IfSome (unread R.remaining input.old) (λ text. needs_world text ≡ false → S.is_reliable store
-        → IsTextRun use_checkpoints text result.outcome (held W.contents output.old) (W.contents output.new.writer) (S.objects store) (S.objects result.store)) }
-    ensures played { result.outcome.end ≢ End.NotRead → IfSome (unread R.remaining input.old) (λ text. needs_world text ≡ true → S.is_reliable store
-        → IsWorldRun use_checkpoints text result.outcome (held W.contents output.old) (W.contents output.new.writer) (S.objects store) (S.objects result.store)) }
+    ensures runs { result.outcome.end ≢ End.NotRead → S.is_reliable store → IfSome (unread R.remaining input.old) (λ text.
+        IsRunOf W.contents S.objects use_checkpoints text result.outcome output.old output.new store result.store) }
     // The sentence, of a script with actors over nothing.
     ensures headline { S.is_reliable store → S.objects store ≡ [] → Finishes result.outcome.end (λ _. IfSome (unread R.remaining input.old) (λ text. needs_world text ≡ true → ArePutHere (lines_of text)
         → TellsWhole (held W.contents output.old) (W.contents output.new.writer) (λ written. IsTextSo use_checkpoints text written (S.objects result.store)))) }
@@ -117,10 +123,6 @@ pub fn run<R: Read, W: Write, S: Store>(
             ran.bad = bad_line(alloc, text.as_slice(), ran.outcome.end);
             ran
         }
-        Err(error) => Ran {
-            outcome: Outcome::new(End::NotRead, error == InputError::Memory),
-            store,
-            bad: None,
-        },
+        Err(error) => not_run(error, store),
     }
 }

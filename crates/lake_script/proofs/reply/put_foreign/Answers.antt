@@ -13,3 +13,9 @@ returns-in-Err-clause-any g c =
 
 pub returns-in-Err-clause-told_lost : goal.returns-in-Err-clause-told_lost
 returns-in-Err-clause-told_lost g c = λ is. unanswered_lost c.in-Err.fault is
+
+pub returns-in-Ok-clause-cache : goal.returns-in-Ok-clause-cache
+returns-in-Ok-clause-cache g c = c.new.ensures.cache (g.S.Store.objects c.put_line.new.store)
+
+pub returns-in-Err-clause-cache : goal.returns-in-Err-clause-cache
+returns-in-Err-clause-cache g c = c.new.ensures.cache (g.S.Store.objects c.put_line.new.store)

@@ -6,17 +6,12 @@ use Rattle.world_script.specs.Words.{needs_world}
 use Rattle.world_script.proofs.Known.{finishes_if, finishes_known, finishes_such, if_kept, of_any, with_known}
 use Rattle.world_script.proofs.running.run.Goals as goal
 
-pub returns-in-Ok-clause-plain : goal.returns-in-Ok-clause-plain
-returns-in-Ok-clause-plain g c = λ read.
+pub returns-in-Ok-clause-runs : goal.returns-in-Ok-clause-runs
+returns-in-Ok-clause-runs g c = λ read reliable.
+    let ran = c.run_any-ran.ensures.runs reliable in
     with_known (unread g.R.Read.remaining c.args.input.now) c.as_slice.result.now _
     (subst (λ (text : List ℕ). IfSome (unread g.R.Read.remaining c.args.input.now) (λ known. text ≡ known)) (sym c.as_slice.ensures.value) c.in-Ok.ensures.all)
-    (λ is. c.run_any-ran.ensures.plain is)
-
-pub returns-in-Ok-clause-played : goal.returns-in-Ok-clause-played
-returns-in-Ok-clause-played g c = λ read.
-    with_known (unread g.R.Read.remaining c.args.input.now) c.as_slice.result.now _
-    (subst (λ (text : List ℕ). IfSome (unread g.R.Read.remaining c.args.input.now) (λ known. text ≡ known)) (sym c.as_slice.ensures.value) c.in-Ok.ensures.all)
-    (λ is. c.run_any-ran.ensures.played is)
+    (record { plain = ran.plain; played = ran.played })
 
 pub returns-in-Ok-clause-headline : goal.returns-in-Ok-clause-headline
 returns-in-Ok-clause-headline g c = λ reliable nothing.
@@ -49,25 +44,28 @@ returns-in-Ok-clause-kept_of g c =
 
 -- ---- where the input isn't read to its end
 
-pub returns-in-Err-clause-plain : goal.returns-in-Err-clause-plain
-returns-in-Err-clause-plain g c = λ read. absurd (read c.new.ensures.end)
+pub returns-in-Err-clause-runs : goal.returns-in-Err-clause-runs
+returns-in-Err-clause-runs g c = λ read. absurd (read c.not_run.ensures.end)
 
-pub returns-in-Err-clause-played : goal.returns-in-Err-clause-played
-returns-in-Err-clause-played g c = λ read. absurd (read c.new.ensures.end)
+pub returns-in-Err-clause-headline : goal.returns-in-Err-clause-headline
+returns-in-Err-clause-headline g c = λ reliable nothing. rw c.not_run.ensures.end tt
+
+pub returns-in-Err-clause-reliable : goal.returns-in-Err-clause-reliable
+returns-in-Err-clause-reliable g c = λ reliable. rw c.not_run.ensures.store reliable
 
 pub returns-in-Err-clause-input : goal.returns-in-Err-clause-input
 returns-in-Err-clause-input g c = record {
-  nothing = λ none. (refl, refl);
+  nothing = λ none. (refl, c.not_run.ensures.store);
   not_read = search rules;
-  broken_input = λ broken. c.new.ensures.end;
-  too_long = of_any (unread g.R.Read.remaining c.args.input.now) _ (λ text long. c.new.ensures.end);
-  bad = rw c.new.ensures.end tt;
+  broken_input = λ broken. c.not_run.ensures.end;
+  too_long = of_any (unread g.R.Read.remaining c.args.input.now) _ (λ text long. c.not_run.ensures.end);
+  bad = rw c.not_run.ensures.end tt;
 }
 
 pub returns-in-Err-clause-ends : goal.returns-in-Err-clause-ends
 returns-in-Err-clause-ends g c = record {
-  nothing_waits = rw c.new.ensures.end tt;
-  behind = rw c.new.ensures.end tt;
-  broken_output = rw c.new.ensures.end tt;
-  not_written = λ cut. absurd (let wrong = sym c.new.ensures.end ∙ cut in cc);
+  nothing_waits = rw c.not_run.ensures.end tt;
+  behind = rw c.not_run.ensures.end tt;
+  broken_output = rw c.not_run.ensures.end tt;
+  not_written = λ cut. absurd (let wrong = sym c.not_run.ensures.end ∙ cut in cc);
 }

@@ -160,13 +160,13 @@ returns c = record {
       (c.in_ok-pass-2.ensures l.leaf_type (drop (present top (take first front)) here.values) passed
       (omega (arith, others, there.others))).1 in
       let added : c.add_levels.new.levels.items ≡ part_of first most front =
-      c.in_ok-add_levels.ensures ∙ ap (λ (ls : List ℕ). ls ++ values_of c.deref-5.result.now) c.new.ensures.items
+      c.in_ok-add_levels.ensures ∙ ap (λ (ls : List ℕ). ls ++ values_of c.deref-5.result.now) c.no_cells-column.ensures.levels
       ∙ ap (λ (rs : List Run). values_of rs) c.deref-5.ensures.value ∙ kept in
       let skip = present top (take first front) in
       let values : row_views c.add.new.out.items
       ≡ take (present top (part_of first most front)) (drop skip here.values) =
       c.in_ok-add.ensures l.leaf_type (drop skip here.values) passed (omega (arith, wanted, there.kept))
-      ∙ ap (λ vs. row_views vs ++ take c.present.result (drop skip here.values)) c.new-2.ensures.items
+      ∙ ap (λ vs. row_views vs ++ take c.present.result (drop skip here.values)) c.no_cells-column.ensures.values
       ∙ ap (λ (n : ℕ). take n (drop skip here.values)) wanted in
       let within : count ≤ length here.levels = omega (arith, less, held.counted) in
       let cut : cut_out 0 count top col ≡ cut_out 0 count top here =

@@ -6,7 +6,7 @@ use Rattle.lake_script.specs.Told.{first_bad, first_bad_from}
 use Rattle.lake_script.proofs.Answering.{AnsweredSoFar}
 use Rattle.lake_script.proofs.RunLemmas.{lines_at_most}
 use Rattle.script_lines.specs.Splitting.{lines_left}
-use Rattle.lake_script.proofs.interpreter.answer_lines.Given as goal
+use Rattle.lake_script.proofs.interpreter.answer_each.Given as goal
 
 abbrev pub invariant-loop-rest : goal.invariant-loop-rest
 invariant-loop-rest g l =
