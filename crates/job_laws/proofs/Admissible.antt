@@ -13,11 +13,12 @@ use Rattle.row_core.proofs.Callers.{same_rows-is}
 use Rattle.table_model.specs.Appends.{appended}
 use Rattle.table_model.specs.declared.table.AppendAnswer.TheVariants.{Committed}
 use Rattle.table_model.specs.Table as model
-use Rattle.table_model.specs.Table.{Entry, group, is_stream_closed, last_batch}
+use Rattle.table_model.specs.Table.{Told, Entry, group, is_stream_closed, last_told}
 use Rattle.table_store.specs.Commits.{IsCommitOf}
 use Rattle.table_store.specs.Holds.{FileStands, HoldsFrom, Stands}
 use Rattle.table_store.specs.Schema.{Schema, IsFileOf}
 use Rattle.table_store.specs.Sound.{IsAdmissible, IsSound}
+use Rattle.table_store.proofs.Callers.{all_free, files_stand}
 use Rattle.table_store.proofs.HoldingPuts.{HoldsFrom-data_file}
 use Rattle.batch_core.specs.Committing.{appending}
 use Rattle.batch_core.specs.Requests.{is_repeat, is_same, unless_other_rows}
@@ -31,8 +32,8 @@ use Rattle.job_laws.proofs.Requests.{PutsBatch, passed}
 -- ---- the table with one more batch
 
 -- a batch with a new number is taken by a table whose stream is open
-new_is_taken : (b : model.Batch) (entries : List Entry) (last : Option model.Batch) → last_batch b.application entries ≡ last → is_stream_closed b.application entries ≡ false
-    → is_repeat b.number (option_map (λ c. c.number) last) ≡ Ok false → appended b entries ≡ Committed (length entries)
+new_is_taken : (b : model.Batch) (entries : List Entry) (last : Option Told) → last_told b.application entries ≡ last → is_stream_closed b.application entries ≡ false
+    → is_repeat b.number (option_map (λ t. t.number) last) ≡ Ok false → appended b entries ≡ Committed (length entries)
 new_is_taken b entries None is goes_on new = rw (is, goes_on) refl
 new_is_taken b entries (Some before) is goes_on new = by_tests (ltb b.number before.number) (eqb b.number before.number) refl refl new
   where
@@ -93,7 +94,8 @@ module _ (objects : Objects) (application : List ℕ) (number at : ℕ) (batch :
         at = sym (sound_count objects sound) ∙ sym puts.version;
         fits = fits;
         commit = commit_made sound.schema puts.name;
-        files = (stands, tt);
+        files = files_stand (with_file objects batch) sound.schema (group (handed_in ∷ [])) (stands, tt);
+        tells = tt;
         lawful = lawful_with handed_in sound.entries log.rest log.begins sound.lawful (taken log);
       }
     where
@@ -106,8 +108,8 @@ module _ (objects : Objects) (application : List ℕ) (number at : ℕ) (batch :
       taken : IsLogOfEntries objects sound.schema sound.entries puts.commits → appended handed_in sound.entries ≡ Committed (length sound.entries)
       taken log =
           let last = log_last objects sound.schema application sound.entries puts.commits log.made in
-          new_is_taken handed_in sound.entries (last_batch application sound.entries) refl (log_open objects sound.schema application sound.entries puts.commits log.made puts.goes_on) (rw last at puts.new)
+          new_is_taken handed_in sound.entries (last_told application sound.entries) refl (log_open objects sound.schema application sound.entries puts.commits log.made puts.goes_on) (rw last at puts.new)
 
       -- the table stands still
       holds : HoldsFrom (with_file objects batch) sound.schema 0 sound.entries
-      holds = rw puts.name (HoldsFrom-data_file objects sound.schema 0 sound.entries application batch.file number sound.holds)
+      holds = rw puts.name (HoldsFrom-data_file objects sound.schema 0 sound.entries application batch.file number (all_free sound.entries (data_file_name application number)) sound.holds)

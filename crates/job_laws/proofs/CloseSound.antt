@@ -20,6 +20,7 @@ use Rattle.table_model.proofs.Kept.{close_keeps}
 use Rattle.table_store.specs.Commits.{IsCommitOf}
 use Rattle.table_store.specs.Schema.{Schema}
 use Rattle.table_store.specs.Sound.{IsAdmissible, IsSound}
+use Rattle.table_store.proofs.Callers.{files_stand}
 use Rattle.table_store.proofs.SoundLemmas.{sound_commit}
 use Rattle.batch_core.specs.Closing.{close_actions}
 use Rattle.batch_core.specs.Refusals.{SinkRefusal, bad_log, read_only}
@@ -82,7 +83,8 @@ module _ (objects : Objects) (sound : IsSound objects) (application : List ℕ) 
         at = sym (sound_count objects sound) ∙ sym puts.is_next;
         fits = fits;
         commit = close_made sound.schema application at text well;
-        files = tt;
+        files = files_stand objects sound.schema (close application) tt;
+        tells = tt;
         lawful = closed_lawful sound.entries log.rest log.begins sound.lawful still;
       }
 

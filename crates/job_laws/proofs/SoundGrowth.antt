@@ -7,6 +7,7 @@ use Rattle.outcomes.specs.Bytes.{IsBytes}
 use Rattle.delta_actions.specs.Names as names
 use Rattle.store_core.specs.Names.{greatest_version}
 use Rattle.table_store.specs.Sound.{IsSound}
+use Rattle.table_store.proofs.Callers.{all_free}
 use Rattle.table_store.proofs.SoundLemmas.{sound_commit, sound_data_file}
 use Rattle.commit_core.specs.Creating.{CreatesWell, MayCreate, CreateRefusal, creation_from, with_creation}
 use Rattle.sink_core.specs.Appending.{EncodedBatch, IsWellMade, MayAppend, PutsWell, AppendPlan, is_past, puts, append_plan, stands, with_append, with_file, with_file_alone}
@@ -33,7 +34,7 @@ module _ (objects : Objects) (sound : IsSound objects) (application : List ℕ) 
     (are : (bytes : List ℕ) → object_at objects (names.data_file_name application number) ≡ Some bytes → IsBytes bytes) where
   -- the file of a batch leaves a sound store sound
   file_sound : (batch : EncodedBatch) → PutsBatch objects application number batch → IsSound (with_file objects batch)
-  file_sound batch found = rw found.name (sound_data_file objects application batch.file number sound)
+  file_sound batch found = rw found.name (sound_data_file objects application batch.file number (λ schema entries holds. all_free entries (names.data_file_name application number)) sound)
 
   -- a step's file alone
   alone_sound : (step : Result AppendPlan sink.SinkRefusal) → append_plan false objects application number at items ≡ step → IsSound (with_file_alone objects step)

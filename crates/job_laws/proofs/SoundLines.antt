@@ -3,6 +3,7 @@ use Rattle.std.proofs.Common.{true, inl, inr, refl, sym, subst}
 use Rattle.store_core.specs.Objects.{AreBytes, Objects}
 use Rattle.delta_actions.specs.Names.{data_file_name}
 use Rattle.table_store.specs.Sound.{IsSound}
+use Rattle.table_store.proofs.Callers.{all_free}
 use Rattle.commit_core.specs.SoundStores.{IsSoundStore}
 use Rattle.lake_script.specs.Growth.{MayPut}
 use Rattle.script_lines.specs.Lines.{Statement, append, asks, checkpoint, close, create, foreign, task}
@@ -20,7 +21,7 @@ line_sound objects (task (append application number at items)) after are here so
 line_sound objects (task (close application at)) after are here sound put = close_sound objects sound application at put.0 after put.1
 line_sound objects (task checkpoint) after are here sound (inl same) = subst IsSound (sym same) sound
 line_sound objects (task checkpoint) after are here sound (inr (version, put)) =
-    subst IsSound (sym put.put) (sound_beside objects put.name put.bytes (λ other fits. no_checkpoint version put.name put.puts.found other) sound)
+    subst IsSound (sym put.put) (sound_beside objects put.name put.bytes (λ other fits. no_checkpoint version put.name put.puts.found other) (λ schema entries holds. all_free entries put.name) sound)
 line_sound objects (foreign version action) after are here sound put = absurd here
 line_sound objects _ after are here sound same = subst IsSound (sym same) sound
 

@@ -14,6 +14,7 @@ use Rattle.batch_core.specs.Closing.{close_actions}
 use Rattle.batch_core.specs.Committing.{appending}
 use Rattle.commit_core.specs.Commits.{creation as created}
 use Rattle.read_laws.specs.Kept.{KeptFrom, KeepsTable}
+use Rattle.source_core.proofs.Callers.{files_stand as entry_stands}
 use Rattle.read_laws.proofs.Callers.{files_stand, none_behind}
 
 -- ---- the commits that this program puts
@@ -55,7 +56,7 @@ holds_from objects schema version end [] kept is ends =
     let here : version ≡ end = omega arith in
     rw here ends
 holds_from objects schema version end (entry ∷ entries) kept is ends =
-    ((kept.0.0, kept.0.1, kept.0.2), files_stand objects schema (batches_of entry) kept.1, holds_from objects schema (suc version) end entries kept.2 (omega arith) ends)
+    ((kept.0.0, kept.0.1, kept.0.2), entry_stands objects schema entry (files_stand objects schema (batches_of entry) kept.1), tt, holds_from objects schema (suc version) end entries kept.2 (omega arith) ends)
 
 -- A store that keeps a table holds it.
 pub kept_holds : (objects : Objects) (schema : Tree) (entries : List Entry) → KeepsTable objects schema entries → Holds objects schema entries

@@ -1,15 +1,15 @@
 -- What stands for the batches of a kept table, and that the name of a new number's file is free.
 use Rattle.std.proofs.Common.{◌≡◌, ℕ, zero, suc, ◌<◌, ◌≤◌, ◌⊎◌, Bool, true, false, List, [], ◌∷◌, ◌++◌, length, map, Option, Some, None, Contains, inl, inr, refl, sym, ap, subst, arith}
 use Rattle.std.specs.Prelude.{bytes_eq, cond, filter, is_some, option_map, slice_index_or}
-use Rattle.std.specs.List.{AllByRecursion}
+use Rattle.std.specs.List.{AllByRecursion, flat_map}
 use Rattle.std.specs.Str.{IsUtf8}
 use Rattle.std.proofs.lemmas.Slice.Eq.{bytes_eq-Decides}
 use Rattle.schema_tree.specs.Tree.{Tree}
 use Rattle.store_core.specs.Objects.{Objects, object_at}
 use Rattle.delta_actions.specs.Names.{data_file_name as plain_file_name}
 use Rattle.table_model.specs.Lawful.{Rises}
-use Rattle.table_model.specs.Table.{Batch, Entry, batches_of, batches, numbers_by, last_item, last_batch}
-use Rattle.table_model.proofs.Callers.{IsAbove, last_none, last_number, numbers_in}
+use Rattle.table_model.specs.Table.{Batch, Told, told_of, Entry, batches_of, batches, tells, numbers_by, last_item, last_told}
+use Rattle.table_model.proofs.Callers.{Contains-map, IsAbove, last_none, last_number, numbers_in, told-batches}
 use Rattle.batch_core.specs.Committing.{batch_file_name, greatest_number}
 use Rattle.read_laws.specs.Kept.{KeepsTable, KeptFrom, FileKept}
 use Rattle.lake_script.specs.Keeps.{IsOwn, HasNoOther}
@@ -72,21 +72,27 @@ batch_stands objects schema version (entry ∷ entries) b kept has =
       | inr later ↦ batch_stands objects schema (suc version) entries b kept.2 later
     ]
 
--- a batch's number is one of its application's
-number_among : (bs : List Batch) (b : Batch) → Contains bs b → Contains (numbers_in b.application bs) b.number
-number_among [] b has = absurd (none_in_nothing b has)
-number_among (c ∷ bs) b has =
-    elim (first_or_behind c bs b has) [
+-- a number that is told is one of its application's
+number_among : (ts : List Told) (t : Told) → Contains ts t → Contains (numbers_in t.application ts) t.number
+number_among [] t has = absurd (none_in_nothing t has)
+number_among (u ∷ ts) t has =
+    elim (first_or_behind u ts t has) [
       | inl same ↦
-          let own : bytes_eq c.application b.application ≡ true = (bytes_eq-Decides c.application b.application).1 (ap (λ (d : Batch). d.application) same) in
-          let number : c.number ≡ b.number = ap (λ (d : Batch). d.number) same in
-          rw own (subst (λ (n : ℕ). Contains (n ∷ numbers_in b.application bs) b.number) (sym number) (first_in b.number (numbers_in b.application bs)))
-      | inr later ↦ passed (bytes_eq c.application b.application) (number_among bs b later)
+          let own : bytes_eq u.application t.application ≡ true = (bytes_eq-Decides u.application t.application).1 (ap (λ (v : Told). v.application) same) in
+          let number : u.number ≡ t.number = ap (λ (v : Told). v.number) same in
+          rw own (subst (λ (n : ℕ). Contains (n ∷ numbers_in t.application ts) t.number) (sym number) (first_in t.number (numbers_in t.application ts)))
+      | inr later ↦ passed (bytes_eq u.application t.application) (number_among ts t later)
     ]
   where
-    passed : (own : Bool) → Contains (numbers_in b.application bs) b.number → Contains (map (λ (d : Batch). d.number) (cond own (c ∷ filter (λ d. bytes_eq d.application b.application) bs) (filter (λ d. bytes_eq d.application b.application) bs))) b.number
-    passed true there = behind_first c.number (numbers_in b.application bs) b.number there
+    passed : (own : Bool) → Contains (numbers_in t.application ts) t.number → Contains (map (λ (v : Told). v.number) (cond own (u ∷ filter (λ v. bytes_eq v.application t.application) ts) (filter (λ v. bytes_eq v.application t.application) ts))) t.number
+    passed true there = behind_first u.number (numbers_in t.application ts) t.number there
     passed false there = there
+
+-- so is a batch's
+batch_number_among : (entries : List Entry) (b : Batch) → Contains (batches entries) b → Contains (numbers_by b.application entries) b.number
+batch_number_among entries b has =
+    let told : Contains (flat_map tells entries) (told_of b) = subst (λ (ts : List Told). Contains ts (told_of b)) (sym (told-batches entries)) (Contains-map told_of (batches entries) b has) in
+    number_among (flat_map tells entries) (told_of b) told
 
 -- the last of rising numbers is the greatest
 up_to_last : (ns : List ℕ) (n m : ℕ) → Rises ns → Contains ns n → last_item ns ≡ Some m → n ≤ m
@@ -117,11 +123,11 @@ none_unless (Some x) never = absurd (never refl)
 
 -- no file stands under a number above the application's last one
 pub no_file : (objects : Objects) (schema : Tree) (entries : List Entry) (application : List ℕ) (number : ℕ) → KeepsTable objects schema entries → HasNoOther objects entries → IsUtf8 application → number ≤ greatest_number
-    → IsAbove number (option_map (λ (b : Batch). b.number) (last_batch application entries)) → object_at objects (plain_file_name application number) ≡ None
+    → IsAbove number (option_map (λ (t : Told). t.number) (last_told application entries)) → object_at objects (plain_file_name application number) ≡ None
 no_file objects schema entries application number kept own utf8 small above =
     none_unless (object_at objects (plain_file_name application number)) (λ some. never (own application number utf8 small some))
   where
     never : IsOwn entries application number → ⊥
     never (b, has, named, numbered) =
-        let there : Contains (numbers_by application entries) number = subst (Contains (numbers_by application entries)) numbered (subst (λ (a : List ℕ). Contains (numbers_by a entries) b.number) named (number_among (batches entries) b has)) in
+        let there : Contains (numbers_by application entries) number = subst (Contains (numbers_by application entries)) numbered (subst (λ (a : List ℕ). Contains (numbers_by a entries) b.number) named (batch_number_among entries b has)) in
         none_above (numbers_by application entries) number _ (last_number application entries) (kept.lawful.rises application) there above

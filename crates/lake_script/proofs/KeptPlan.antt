@@ -21,7 +21,7 @@ use Rattle.delta_replay.specs.Support.{has_key_inside}
 use Rattle.row_core.specs.Rows.{Row}
 use Rattle.row_core.proofs.Callers.{same_rows-is}
 use Rattle.table_model.specs.Table as model
-use Rattle.table_model.specs.Table.{Entry, group, is_stream_closed, last_batch}
+use Rattle.table_model.specs.Table.{Told, Entry, group, is_stream_closed, last_told}
 use Rattle.commit_core.proofs.Callers.{commit_name-data_file_name}
 use Rattle.batch_core.specs.Committing.{batch_file_name, greatest_number}
 use Rattle.batch_core.specs.Requests.{checked, is_repeat, is_same, unless_other_rows, where_same, file_or_refusal}
@@ -199,10 +199,10 @@ module _ (objects : Objects) (schema : Tree) (entries : List Entry) (kept : Keep
   again_goes_on (Ok same) = (unchanged, unchanged)
   again_goes_on (Err why) = (unchanged, unchanged)
 
-  -- what is done behind the application's last batch, if there is one
-  behind_goes_on : (last : Option model.Batch) → last_batch application entries ≡ last
-      → PutsWell application number at (behind (is_repeat number (option_map (λ (b : model.Batch). b.number) last)))
-      → GoesOn (suc most) objects (behind (is_repeat number (option_map (λ (b : model.Batch). b.number) last)))
+  -- what is done behind what was told last of the application, if anything was
+  behind_goes_on : (last : Option Told) → last_told application entries ≡ last
+      → PutsWell application number at (behind (is_repeat number (option_map (λ (t : Told). t.number) last)))
+      → GoesOn (suc most) objects (behind (is_repeat number (option_map (λ (t : Told). t.number) last)))
   behind_goes_on None is well = open_goes_on (is_stream_closed application entries) (rw is refl) well
   behind_goes_on (Some before) is well = by_tests (ltb number before.number) (eqb number before.number) refl refl well
     where
@@ -227,7 +227,7 @@ append_goes_on objects schema entries kept files most up application number at i
         → GoesOn (suc most) objects (step_with objects entries application number at schema read)
     by_read (Err why) small well = same
     by_read (Ok rows) small well =
-        behind_goes_on objects schema entries kept files most up application number at utf8 small rows (last_batch application entries) refl well
+        behind_goes_on objects schema entries kept files most up application number at utf8 small rows (last_told application entries) refl well
 
     by_tests : (fine : Result (Unit {0}) SinkRefusal) (barred : Bool) (takes : Result (Unit {0}) SinkRefusal) → checked application number (items_len items) ≡ fine
         → PutsWell application number at (step_behind objects schema entries application number at items fine barred takes) → GoesOn (suc most) objects (step_behind objects schema entries application number at items fine barred takes)

@@ -15,7 +15,7 @@ pub use Rattle.table_store.proofs.ConflictLemmas.{member_mapped, none_contained,
 pub use Rattle.table_store.proofs.HoldingLogs.{numbers-without_commit_info, told-without_commit_info, AreFilesOf-new, new_files-added, new_files-without_commit_info, paths_of}
 pub use Rattle.table_store.proofs.HoldingOne.{named}
 pub use Rattle.table_store.proofs.NamesOnce.{data_file_name-application, ok_is}
-pub use Rattle.table_store.proofs.Callers.{HasNoFloat, printed_text, commit_name-data_file_name, lawful_log, commit_name-once, data_file_name-once}
+pub use Rattle.table_store.proofs.Callers.{HasNoFloat, printed_text, commit_name-data_file_name, lawful_log, commit_name-once, data_file_name-once, batch_files, files_stand}
 pub use Rattle.table_store.proofs.ActionLemmas.{views_more}
 pub use Rattle.table_store.proofs.LawfulLogLemmas.{AreMadeFor}
 pub use Rattle.table_store.proofs.HoldingEnds.{HoldsFrom-fit}

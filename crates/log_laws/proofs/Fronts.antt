@@ -5,7 +5,7 @@ use Rattle.delta_actions.specs.Action as actions
 use Rattle.table_log.specs.Versions.{commits_in, versions_from}
 use Rattle.table_model.specs.Lawful.{IsLawful}
 use Rattle.table_model.specs.Table.{Entry}
-use Rattle.table_model.proofs.Callers.{lawful-front}
+use Rattle.table_model.proofs.Callers.{Begins-front, lawful-front}
 use Rattle.table_store.specs.Holds.{Holds, HoldsFirst}
 use Rattle.table_store.specs.Schema.{Schema}
 use Rattle.table_store.specs.Sound.{IsSound}
@@ -16,12 +16,13 @@ use Rattle.log_laws.proofs.LogEntries.{all_commits, are_made, commits_stand, hel
 -- the first of what stands
 first_of : (objects : Objects) (schema : Schema) (version : ℕ) (entries later : List Entry) → HoldsFirst objects schema version (entries ++ later) → HoldsFirst objects schema version entries
 first_of objects schema version [] later stand = tt
-first_of objects schema version (entry ∷ entries) later stand = (stand.0, stand.1, first_of objects schema (suc version) entries later stand.2)
+first_of objects schema version (entry ∷ entries) later stand = (stand.0, stand.1, stand.2, first_of objects schema (suc version) entries later stand.3)
 
 -- The first entries of a sound table stand, and are a lawful table.
 pub front_stands : (objects : Objects) (schema : Schema) (entries later : List Entry) → IsSound objects → Holds objects schema (entries ++ later) → HoldsFirst objects schema 0 entries × IsLawful entries
 front_stands objects schema entries later sound holds =
-    (first_of objects schema 0 entries later (held_first objects schema 0 (entries ++ later) holds), lawful-front entries later (lawful_table objects sound schema (entries ++ later) holds))
+    let lawful = lawful_table objects sound schema (entries ++ later) holds in
+    (first_of objects schema 0 entries later (held_first objects schema 0 (entries ++ later) holds), lawful-front entries later lawful (Begins-front entries later lawful.begins))
 
 -- The first commits, where they are read, stand for the first entries.
 pub front_made : (objects : Objects) (schema : Schema) (entries : List Entry) (commits : List (List actions.Action)) → HoldsFirst objects schema 0 entries → commits_in 0 (versions_from (length entries) 0 objects) ≡ Ok commits

@@ -1,15 +1,15 @@
 -- What stays while a store grows: which commits are admissible, and the table that stands.
 use Rattle.std.proofs.Common.{◌≡◌, ◌∙◌, ℕ, suc, ◌<◌, ◌≤◌, Bool, true, false, ◌||◌, List, [], ◌∷◌, ◌++◌, Option, Some, None, append_assoc, arith, refl, sym, ap, subst, flat_map, bytes_eq}
-use Rattle.std.specs.List.{list_any}
+use Rattle.std.specs.List.{AllByRecursion, list_any}
 use Rattle.std.specs.Prelude.{option_map}
 use Rattle.std.proofs.lemmas.List.Concat.{flat_map-append}
 use Rattle.std.proofs.lemmas.List.Folds.{list_any-append}
 use Rattle.store_core.specs.Objects.{Objects, HasObjectsOf}
 use Rattle.store_core.specs.Names.{commit_name}
 use Rattle.table_model.specs.Lawful.{IsLawful, Rises}
-use Rattle.table_model.specs.Table.{Batch, Entry, closes_of, is_stream_closed, last_batch, numbers_by}
-use Rattle.table_model.proofs.Callers.{Rises-back, below_later, last_batch-append, last_number, last_some, numbers_by-append}
-use Rattle.table_store.specs.Holds.{Holds, HoldsFirst}
+use Rattle.table_model.specs.Table.{Told, Entry, closes_of, is_stream_closed, last_told, numbers_by}
+use Rattle.table_model.proofs.Callers.{Rises-back, below_later, last_told-append, last_number, last_some, numbers_by-append}
+use Rattle.table_store.specs.Holds.{Holds, HoldsFirst, Lacks}
 use Rattle.table_store.specs.Schema.{Schema}
 use Rattle.table_store.specs.Sound.{IsAdmissible, IsSound}
 use Rattle.table_store.proofs.HoldingGrown.{front}
@@ -20,22 +20,27 @@ use Rattle.table_store.proofs.HoldingSchema.{only_table}
 
 module _ (objects more : Objects) (grown : HasObjectsOf objects more) where
   -- the first commits stand
-  first_kept : (schema : Schema) (version : ℕ) (entries : List Entry) → HoldsFirst objects schema version entries → HoldsFirst more schema version entries
-  first_kept schema version [] stand = tt
-  first_kept schema version (entry ∷ entries) stand =
-      (Stands-kept objects more grown (commit_name version) _ stand.0, FilesStand-kept objects more grown schema entry stand.1, first_kept schema (suc version) entries stand.2)
+  first_kept : (schema : Schema) (version : ℕ) (entries later : List Entry) → AllByRecursion (Lacks more) (entries ++ later) → HoldsFirst objects schema version entries → HoldsFirst more schema version entries
+  first_kept schema version [] later lacking stand = tt
+  first_kept schema version (entry ∷ entries) later lacking stand =
+      (Stands-kept objects more grown (commit_name version) _ stand.0, FilesStand-kept objects more grown schema entry lacking.0 stand.1, stand.2, first_kept schema (suc version) entries later lacking.1 stand.3)
 
-  -- An admissible commit stays one.
-  pub admissible_kept : (version : ℕ) (bytes : List ℕ) → IsAdmissible objects version bytes → IsAdmissible more version bytes
-  admissible_kept version bytes new = record {
+  last_lacks : (entries : List Entry) (entry : Entry) → AllByRecursion (Lacks more) (entries ++ entry ∷ []) → Lacks more entry
+  last_lacks [] entry lacking = lacking.0
+  last_lacks (first ∷ entries) entry lacking = last_lacks entries entry lacking.1
+
+  -- An admissible commit stays one, where what its entries lack isn't there.
+  pub admissible_kept : (version : ℕ) (bytes : List ℕ) → (new : IsAdmissible objects version bytes) → AllByRecursion (Lacks more) (new.entries ++ new.entry ∷ []) → IsAdmissible more version bytes
+  admissible_kept version bytes new lacking = record {
     schema = new.schema;
     entries = new.entries;
     entry = new.entry;
-    stand = first_kept new.schema 0 new.entries new.stand;
+    stand = first_kept new.schema 0 new.entries (new.entry ∷ []) lacking new.stand;
     at = new.at;
     fits = new.fits;
     commit = new.commit;
-    files = FilesStand-kept objects more grown new.schema new.entry new.files;
+    files = FilesStand-kept objects more grown new.schema new.entry (last_lacks new.entries new.entry lacking) new.files;
+    tells = new.tells;
     lawful = new.lawful;
   }
 
@@ -76,24 +81,24 @@ closed_kept application entries later closed =
     ∙ first_true (is_stream_closed application entries) (is_stream_closed application later) closed
 
 -- an application's last number doesn't fall
-abbrev pub NotBelow : List ℕ → Batch → List Entry → Type 0
-NotBelow application b entries = (c : Batch) × (last_batch application entries ≡ Some c) × (b.number ≤ c.number)
+abbrev pub NotBelow : List ℕ → Told → List Entry → Type 0
+NotBelow application t entries = (u : Told) × (last_told application entries ≡ Some u) × (t.number ≤ u.number)
 
-pub number_kept : (application : List ℕ) (b : Batch) (entries later : List Entry) → IsLawful (entries ++ later) → last_batch application entries ≡ Some b → NotBelow application b (entries ++ later)
-number_kept application b entries later lawful is = by_last (last_batch application later) refl
+pub number_kept : (application : List ℕ) (t : Told) (entries later : List Entry) → IsLawful (entries ++ later) → last_told application entries ≡ Some t → NotBelow application t (entries ++ later)
+number_kept application t entries later lawful is = by_last (last_told application later) refl
   where
     -- the last number of some entries
-    ends_with : (c : Batch) (some : List Entry) → last_batch application some ≡ Some c → (before : List ℕ) × (numbers_by application some ≡ before ++ c.number ∷ [])
-    ends_with c some last_is = last_some (numbers_by application some) c.number (last_number application some ∙ ap (option_map (λ (b : Batch). b.number)) last_is)
+    ends_with : (u : Told) (some : List Entry) → last_told application some ≡ Some u → (before : List ℕ) × (numbers_by application some ≡ before ++ u.number ∷ [])
+    ends_with u some last_is = last_some (numbers_by application some) u.number (last_number application some ∙ ap (option_map (λ (v : Told). v.number)) last_is)
 
-    rises : (c : Batch) → last_batch application later ≡ Some c → b.number < c.number
-    rises c last_is =
-        let one = ends_with b entries is in
-        let two = ends_with c later last_is in
-        let all : numbers_by application (entries ++ later) ≡ (one.0 ++ b.number ∷ []) ++ (two.0 ++ c.number ∷ []) = numbers_by-append application entries later ∙ (λ i. one.1 i ++ two.1 i) in
-        let from : (one.0 ++ b.number ∷ []) ++ (two.0 ++ c.number ∷ []) ≡ one.0 ++ (b.number ∷ (two.0 ++ c.number ∷ [])) = append_assoc one.0 (b.number ∷ []) (two.0 ++ c.number ∷ []) in
-        below_later b.number two.0 c.number [] (Rises-back one.0 (b.number ∷ (two.0 ++ c.number ∷ [])) (subst Rises (all ∙ from) (lawful.rises application)))
+    rises : (u : Told) → last_told application later ≡ Some u → t.number < u.number
+    rises u last_is =
+        let one = ends_with t entries is in
+        let two = ends_with u later last_is in
+        let all : numbers_by application (entries ++ later) ≡ (one.0 ++ t.number ∷ []) ++ (two.0 ++ u.number ∷ []) = numbers_by-append application entries later ∙ (λ i. one.1 i ++ two.1 i) in
+        let from : (one.0 ++ t.number ∷ []) ++ (two.0 ++ u.number ∷ []) ≡ one.0 ++ (t.number ∷ (two.0 ++ u.number ∷ [])) = append_assoc one.0 (t.number ∷ []) (two.0 ++ u.number ∷ []) in
+        below_later t.number two.0 u.number [] (Rises-back one.0 (t.number ∷ (two.0 ++ u.number ∷ [])) (subst Rises (all ∙ from) (lawful.rises application)))
 
-    by_last : (found : Option Batch) → last_batch application later ≡ found → NotBelow application b (entries ++ later)
-    by_last None none = (b, last_batch-append application entries later ∙ rw (none, is) refl, omega arith)
-    by_last (Some c) last_is = (c, last_batch-append application entries later ∙ rw last_is refl, let above = rises c last_is in omega (arith, above))
+    by_last : (found : Option Told) → last_told application later ≡ found → NotBelow application t (entries ++ later)
+    by_last None none = (t, last_told-append application entries later ∙ rw (none, is) refl, omega arith)
+    by_last (Some u) last_is = (u, last_told-append application entries later ∙ rw last_is refl, let above = rises u last_is in omega (arith, above))

@@ -6,7 +6,9 @@ use Rattle.store_core.specs.Names.{commit_name, commit_version, greatest_version
 use Rattle.store_core.proofs.Callers.{own_version}
 use Rattle.table_log.specs.Restoring.{IsSoundCheckpoint, checkpoint_version}
 use Rattle.table_log.proofs.Callers.{commit_is_none, data_file_is_none, sound_beside as checkpoints_beside, sound_with}
+use Rattle.table_store.specs.Holds.{IsFreeIn}
 use Rattle.table_store.specs.Sound.{IsAdmissible}
+use Rattle.table_store.proofs.Callers.{all_free}
 use Rattle.table_store.proofs.SoundLemmas.{sound_commit, sound_data_file}
 use Rattle.log_laws.specs.Sound.{IsSoundStore}
 use Rattle.log_laws.proofs.Beside.{sound_beside}
@@ -19,16 +21,16 @@ commit_lands objects version bytes sound new = record {
 }
 
 -- a data file
-pub data_file_lands : (objects : Objects) (application bytes : List ℕ) (number : ℕ) → IsSoundStore objects → IsSoundStore (with_object objects (names.data_file_name application number) bytes)
-data_file_lands objects application bytes number sound = record {
-  table = sound_data_file objects application bytes number sound.table;
+pub data_file_lands : (objects : Objects) (application bytes : List ℕ) (number : ℕ) → IsFreeIn objects (names.data_file_name application number) → IsSoundStore objects → IsSoundStore (with_object objects (names.data_file_name application number) bytes)
+data_file_lands objects application bytes number free sound = record {
+  table = sound_data_file objects application bytes number free sound.table;
   checkpoints = checkpoints_beside objects (names.data_file_name application number) bytes true (data_file_is_none application number) sound.checkpoints;
 }
 
 -- an object that is neither a commit nor a checkpoint
-pub other_lands : (objects : Objects) (name bytes : List ℕ) → commit_version name ≡ None → checkpoint_version name ≡ None → IsSoundStore objects → IsSoundStore (with_object objects name bytes)
-other_lands objects name bytes none_of none sound = record {
-  table = sound_beside objects name bytes apart sound.table;
+pub other_lands : (objects : Objects) (name bytes : List ℕ) → commit_version name ≡ None → checkpoint_version name ≡ None → IsFreeIn objects name → IsSoundStore objects → IsSoundStore (with_object objects name bytes)
+other_lands objects name bytes none_of none free sound = record {
+  table = sound_beside objects name bytes apart free sound.table;
   checkpoints = checkpoints_beside objects name bytes true none sound.checkpoints;
 }
   where
@@ -42,6 +44,6 @@ no_commit name own is version same = let wrong : None ≡ Some own = sym (commit
 -- a checkpoint
 pub checkpoint_lands : (objects : Objects) (name bytes : List ℕ) (version : ℕ) → checkpoint_version name ≡ Some version → IsSoundStore objects → IsSoundCheckpoint objects version bytes → IsSoundStore (with_object objects name bytes)
 checkpoint_lands objects name bytes version is sound good = record {
-  table = sound_beside objects name bytes (λ other fits. no_commit name version is other) sound.table;
+  table = sound_beside objects name bytes (λ other fits. no_commit name version is other) (λ schema entries holds. all_free entries name) sound.table;
   checkpoints = sound_with objects name bytes true version is good sound.checkpoints;
 }

@@ -11,8 +11,8 @@ use Rattle.table_log.specs.Counts.{commit_count}
 use Rattle.table_log.specs.Restoring.{AreAlike, RestoresWell, replayed}
 use Rattle.table_log.specs.Versions.{commit, commits_of, log_of, versions_from, versions_of}
 use Rattle.table_log.proofs.Callers.{of_commit, same_values, replayed_alike, well_sound}
-use Rattle.table_model.specs.Lawful.{BeginsWithCreation}
-use Rattle.table_model.specs.Table.{Entry, creation, group, close, is_stream_closed, last_batch}
+use Rattle.table_model.specs.Lawful.{Begins}
+use Rattle.table_model.specs.Table.{Entry, creation, group, close, is_stream_closed, last_told}
 use Rattle.table_store.specs.Holds.{Holds, HoldsFrom}
 use Rattle.table_store.specs.Logs.{IsLog, LogFrom}
 use Rattle.table_store.specs.Schema.{Schema}
@@ -39,7 +39,7 @@ log_stands objects version (made ∷ commits) log =
 stand_as_log : (objects : Objects) (schema : Schema) (version : ℕ) (entries : List Entry) (holds : HoldsFrom objects schema version entries)
     → LogFrom objects version (made_of objects schema version entries (held_first objects schema version entries holds))
 stand_as_log objects schema version [] holds = holds
-stand_as_log objects schema version (entry ∷ entries) holds = ((holds.0.0, holds.0.1, holds.0.2.commit), stand_as_log objects schema (suc version) entries holds.2)
+stand_as_log objects schema version (entry ∷ entries) holds = ((holds.0.0, holds.0.1, holds.0.2.commit), stand_as_log objects schema (suc version) entries holds.3)
 
 module _ (objects : Objects) (sound : IsSound objects) where
   -- A sound store has as many versions as the table that it holds has entries.
@@ -93,8 +93,8 @@ module _ (objects : Objects) (schema : Schema) (entries : List Entry) (holds : H
   made_by_log : (commits : List (List actions.Action)) → IsLog objects commits → AreMadeFor objects schema entries commits
   made_by_log commits log = made_for objects schema 0 entries commits holds log
 
-  -- The number that an application has come to is that of its last batch.
-  pub number_left : (commits : List (List actions.Action)) (application : List ℕ) → IsLog objects commits → last_number application commits ≡ option_map (λ b. b.number) (last_batch application entries)
+  -- The number that an application has come to is that told last of it.
+  pub number_left : (commits : List (List actions.Action)) (application : List ℕ) → IsLog objects commits → last_number application commits ≡ option_map (λ t. t.number) (last_told application entries)
   number_left commits application log = log_last objects schema application entries commits (made_by_log commits log)
 
   -- Its stream is closed where the table has it closed.
@@ -105,14 +105,14 @@ module _ (objects : Objects) (schema : Schema) (entries : List Entry) (holds : H
   open_left commits application log opened = log_open objects schema application entries commits (made_by_log commits log) opened
 
 -- by entries that begin with their creation
-pub read_by : (objects : Objects) (schema : Schema) (entries : List Entry) (first : List actions.Action) (commits : List (List actions.Action)) → BeginsWithCreation entries → AreMadeFor objects schema entries (first ∷ commits)
+pub read_by : (objects : Objects) (schema : Schema) (entries : List Entry) (first : List actions.Action) (commits : List (List actions.Action)) → Begins entries → AreMadeFor objects schema entries (first ∷ commits)
     → readable (first ∷ commits) ≡ Ok schema
 read_by objects schema [] first commits begins made = absurd made
 read_by objects schema (creation ∷ rest) first commits begins made = log_readable objects schema rest (first ∷ commits) made
 read_by objects schema (group bs ∷ rest) first commits begins made = absurd begins
 read_by objects schema (close application ∷ rest) first commits begins made = absurd begins
 
-pub written_by : (objects : Objects) (schema found : Schema) (entries : List Entry) (commits : List (List actions.Action)) → BeginsWithCreation entries → AreMadeFor objects schema entries commits → writable commits ≡ Ok found
+pub written_by : (objects : Objects) (schema found : Schema) (entries : List Entry) (commits : List (List actions.Action)) → Begins entries → AreMadeFor objects schema entries commits → writable commits ≡ Ok found
     → found ≡ schema
 written_by objects schema found [] [] begins made is = absurd cc
 written_by objects schema found [] (first ∷ commits) begins made is = absurd made
@@ -168,7 +168,7 @@ module _ (use_checkpoints : Bool) (objects : Objects) (sound : IsSoundStore obje
     whole : (log : List (List actions.Action)) × IsLog objects log × ((key : Key) → at key commits ≡ at key log)
     whole = let found = seen_leaves commits is in (found.0, log_stood objects sound.table found.0 found.1, found.2)
 
-    pub seen_number : (application : List ℕ) → last_number application commits ≡ option_map (λ b. b.number) (last_batch application entries)
+    pub seen_number : (application : List ℕ) → last_number application commits ≡ option_map (λ t. t.number) (last_told application entries)
     seen_number application = (same_values commits whole.0 whole.2).numbers application ∙ number_left objects schema entries holds whole.0 application whole.1
 
     pub seen_closed : (application : List ℕ) → IsUtf8 application → logs.is_closed application commits ≡ is_stream_closed application entries

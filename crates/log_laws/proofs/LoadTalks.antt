@@ -83,7 +83,7 @@ commit_at objects schema version wanted [] holds low high = absurd (omega arith)
 commit_at objects schema version wanted (entry ∷ entries) holds low high =
     elim (cases_eq wanted version) [
       | inl here ↦ (holds.0.0, holds.0.2.actions, rw here holds.0.1, holds.0.2.commit)
-      | inr later ↦ commit_at objects schema (suc version) wanted entries holds.2 (omega (arith, later)) (omega arith)
+      | inr later ↦ commit_at objects schema (suc version) wanted entries holds.3 (omega (arith, later)) (omega arith)
     ]
 
 -- the same bytes are a commit and none

@@ -7,7 +7,7 @@ use Rattle.store_core.specs.Names.{commit_name, greatest_version}
 use Rattle.table_log.specs.Counts.{commit_count}
 use Rattle.table_log.specs.Versions.{commit, versions_from, versions_of, commits_in, commits_of, log_of}
 use Rattle.table_log.proofs.Callers.{count_is, of_commit, stands_below}
-use Rattle.table_model.specs.Lawful.{BeginsWithCreation}
+use Rattle.table_model.specs.Lawful.{Begins}
 use Rattle.table_model.specs.Table.{Entry, creation, group, close}
 use Rattle.table_store.specs.Holds.{HoldsFirst, HoldsFrom}
 use Rattle.table_store.specs.Schema.{Schema}
@@ -24,7 +24,7 @@ stands_at objects schema version wanted [] holds low high = absurd (omega arith)
 stands_at objects schema version wanted (entry ∷ entries) holds low high =
     elim (cases_eq wanted version) [
       | inl here ↦ rw (here, holds.0.1) refl
-      | inr later ↦ stands_at objects schema (suc version) wanted entries holds.2 (omega (arith, later)) (omega arith)
+      | inr later ↦ stands_at objects schema (suc version) wanted entries holds.3 (omega (arith, later)) (omega arith)
     ]
 
 module _ (objects : Objects) (sound : IsSound objects) where
@@ -62,25 +62,25 @@ module _ (objects : Objects) (sound : IsSound objects) where
 -- what is held is held first
 abbrev pub held_first : (objects : Objects) (schema : Schema) (version : ℕ) (entries : List Entry) → HoldsFrom objects schema version entries → HoldsFirst objects schema version entries
 held_first objects schema version [] holds = tt
-held_first objects schema version (entry ∷ entries) holds = (holds.0, holds.1, held_first objects schema _ entries holds.2)
+held_first objects schema version (entry ∷ entries) holds = (holds.0, holds.1, holds.2, held_first objects schema _ entries holds.3)
 
 module _ (objects : Objects) (schema : Schema) where
   -- the actions of the commits that stand
   abbrev pub made_of : (version : ℕ) (entries : List Entry) → HoldsFirst objects schema version entries → List (List actions.Action)
   made_of version [] stand = []
-  made_of version (entry ∷ entries) stand = stand.0.2.actions ∷ made_of (suc version) entries stand.2
+  made_of version (entry ∷ entries) stand = stand.0.2.actions ∷ made_of (suc version) entries stand.3
 
   -- they stand for the entries
   pub are_made : (version : ℕ) (entries : List Entry) (stand : HoldsFirst objects schema version entries) → AreMadeFor objects schema entries (made_of version entries stand)
   are_made version [] stand = tt
-  are_made version (entry ∷ entries) stand = (stand.0.2.stand, stand.1, are_made (suc version) entries stand.2)
+  are_made version (entry ∷ entries) stand = (stand.0.2.stand, stand.1, are_made (suc version) entries stand.3)
 
   -- they are what the versions have
   pub commits_stand : (version : ℕ) (entries : List Entry) (stand : HoldsFirst objects schema version entries) → versions_from (length entries) version objects ≡ map commit (made_of version entries stand)
   unfolding versions_from
   commits_stand version [] stand = refl
   commits_stand version (entry ∷ entries) stand =
-      let more : versions_from (length entries) (suc version) objects ≡ map commit (made_of (suc version) entries stand.2) = commits_stand (suc version) entries stand.2 in
+      let more : versions_from (length entries) (suc version) objects ≡ map commit (made_of (suc version) entries stand.3) = commits_stand (suc version) entries stand.3 in
       rw (stand.0.1, of_commit stand.0.0 stand.0.2.actions stand.0.2.commit, add-one, more) refl
 
 -- there is a commit for each entry
@@ -109,7 +109,7 @@ pub record IsLogOfEntries (objects : Objects) (schema : Schema) (entries : List 
   pub made : AreMadeFor objects schema entries commits
 
 -- commits that are read for entries are a log of them
-log_by : (objects : Objects) (schema : Schema) (entries : List Entry) (made commits : List (List actions.Action)) → BeginsWithCreation entries → AreMadeFor objects schema entries made
+log_by : (objects : Objects) (schema : Schema) (entries : List Entry) (made commits : List (List actions.Action)) → Begins entries → AreMadeFor objects schema entries made
     → commits_of (map commit made) ≡ Ok commits → IsLogOfEntries objects schema entries commits
 log_by objects schema [] [] commits begins are told = absurd cc
 log_by objects schema [] (first ∷ made) commits begins are told = absurd are

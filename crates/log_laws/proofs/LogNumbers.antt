@@ -1,4 +1,4 @@
--- The number that an application has come to by a lawful log is that of its last batch.
+-- The number that an application has come to by a lawful log is the one told last of it.
 use Rattle.std.proofs.Common.{◌≡◌, ℕ, Bool, List, [], ◌∷◌, ◌++◌, map, filter, refl, ap, ◌∙◌, inl, inr, bytes_eq, flat_map}
 use Rattle.std.specs.Prelude.{option_and_then, option_map}
 use Rattle.std.specs.List.{filter_map}
@@ -11,7 +11,7 @@ use Rattle.delta_actions.specs.Action.{txn, TxnAction}
 use Rattle.delta_actions.specs.In.{txn_in}
 use Rattle.delta_replay.specs.Keys as keys
 use Rattle.delta_replay.specs.Keys.{number_of, is_of, actions_of, kept, last_number}
-use Rattle.table_model.specs.Table.{Entry, last_batch, last_item}
+use Rattle.table_model.specs.Table.{Entry, last_item, last_told}
 use Rattle.table_model.proofs.Callers.{last_number as last_by}
 use Rattle.table_store.specs.Groups.{numbers}
 use Rattle.table_store.specs.LawfulLogs.{numbers_of}
@@ -33,10 +33,10 @@ own_txns application (txn t ∷ made) =
 own_txns application (_ ∷ made) = own_txns application made
 
 -- the last of them tells the last of their numbers
-last_told : (ts : List TxnAction) → option_map (λ t. t.version) (option_and_then txn_in (kept (keys.last (map txn ts)))) ≡ last_item (map (λ t. t.version) ts)
-last_told [] = refl
-last_told (t ∷ []) = refl
-last_told (t ∷ u ∷ ts) = last_told (u ∷ ts)
+last_version : (ts : List TxnAction) → option_map (λ t. t.version) (option_and_then txn_in (kept (keys.last (map txn ts)))) ≡ last_item (map (λ t. t.version) ts)
+last_version [] = refl
+last_version (t ∷ []) = refl
+last_version (t ∷ u ∷ ts) = last_version (u ∷ ts)
 
 -- an application and its number
 abbrev pair_of : TxnAction → List ℕ × ℕ
@@ -64,12 +64,12 @@ last_among application commits =
     let ts = filter_map txn_in (actions_of commits) in
     let own : filter (is_of (number_of application)) (actions_of commits) ≡ map txn (filter (is_own application) ts) = own_txns application (actions_of commits) in
     ap (λ (es : List actions.Action). option_map (λ t. t.version) (option_and_then txn_in (kept (keys.last es)))) own
-    ∙ last_told (filter (is_own application) ts)
+    ∙ last_version (filter (is_own application) ts)
     ∙ ap (λ (ns : List ℕ). last_item ns) (own_numbers application ts)
     ∙ ap (λ (ns : List (List ℕ × ℕ)). last_item (numbers_of application ns)) (all_numbers commits)
 
--- The number that an application has come to by the commits of a table's entries is that of its last batch.
+-- The number that an application has come to by the commits of a table's entries is the one told last of it.
 pub log_last : (objects : Objects) (schema : Schema) (application : List ℕ) (entries : List Entry) (commits : List (List actions.Action)) → AreMadeFor objects schema entries commits
-    → last_number application commits ≡ option_map (λ b. b.number) (last_batch application entries)
+    → last_number application commits ≡ option_map (λ t. t.number) (last_told application entries)
 log_last objects schema application entries commits made =
     last_among application commits ∙ ap (λ (ns : List ℕ). last_item ns) (numbers_by_log objects schema application entries commits made) ∙ last_by application entries

@@ -1,12 +1,13 @@
 //! Laws of which commits may be put next, where the versions before them stand.
 
-ghost use Rattle.std.specs.Prelude.{◌≡◌, ◌≤◌, ℕ, suc, List, [], ◌∷◌, length, false, Some};
+ghost use Rattle.std.specs.Prelude.{◌≡◌, ◌≢◌, ◌≤◌, ℕ, suc, List, [], ◌∷◌, length, map, false, Some};
+ghost use Rattle.std.specs.List.{AllByRecursion};
 ghost use Rattle.store_core.specs.Objects.{Objects, object_at};
 ghost use Rattle.delta_actions.specs.Action.{Action};
 ghost use Rattle.delta_actions.specs.Commit.{IsCommit};
 ghost use Rattle.store_core.specs.Names.{commit_name, greatest_version};
 ghost use Rattle.table_model.specs.Appends.{appended};
-ghost use Rattle.table_model.specs.Lawful.{IsLawful};
+ghost use Rattle.table_model.specs.Lawful.{AreDifferent, IsLawful};
 ghost use Rattle.table_model.specs.Table.{Batch, Entry, creation, group, close, is_stream_closed};
 ghost use Rattle.table_model.specs.declared.table.AppendAnswer.TheVariants.{Committed};
 ghost use Rattle.table_store.specs.Commits.{IsCommitOf};
@@ -27,12 +28,16 @@ pub fn a_creation_is_admissible()
 {}
 
 /// Behind the versions of a lawful table, of which the creation is one, these commits are admissible at the version
-/// that comes next, if a commit can have it: that of a batch which the table takes, whose file stands, and that of a
-/// stream's close which isn't closed. The name of the version may be taken meanwhile, and versions behind it too.
+/// that comes next, if a commit can have it: that of a batch which the table takes, whose file stands, that of several
+/// such batches of different applications, and that of a stream's close which isn't closed. The name of the version may
+/// be taken meanwhile, and versions behind it too.
 pub fn the_next_entry_is_admissible()
     ensures batch { (objects : Objects) (schema : Schema) (first : Entry) (entries : List Entry) (b : Batch) (bytes : List ℕ) → HoldsFirst objects schema 0 (first ∷ entries) → IsLawful (first ∷ entries)
         → length (first ∷ entries) ≤ greatest_version → appended b (first ∷ entries) ≡ Committed (length (first ∷ entries)) → IsCommitOf schema (group (b ∷ [])) bytes → FileStands objects schema b
         → IsAdmissible objects (length (first ∷ entries)) bytes }
+    ensures group { (objects : Objects) (schema : Schema) (first : Entry) (entries : List Entry) (bs : List Batch) (bytes : List ℕ) → HoldsFirst objects schema 0 (first ∷ entries) → IsLawful (first ∷ entries)
+        → length (first ∷ entries) ≤ greatest_version → bs ≢ [] → AreDifferent (map (λ b. b.application) bs) → AllByRecursion (λ b. appended b (first ∷ entries) ≡ Committed (length (first ∷ entries))) bs
+        → IsCommitOf schema (group bs) bytes → AllByRecursion (FileStands objects schema) bs → IsAdmissible objects (length (first ∷ entries)) bytes }
     ensures closed { (objects : Objects) (schema : Schema) (first : Entry) (entries : List Entry) (application bytes : List ℕ) → HoldsFirst objects schema 0 (first ∷ entries) → IsLawful (first ∷ entries)
         → length (first ∷ entries) ≤ greatest_version → is_stream_closed application (first ∷ entries) ≡ false → IsCommitOf schema (close application) bytes
         → IsAdmissible objects (length (first ∷ entries)) bytes }

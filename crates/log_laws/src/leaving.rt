@@ -12,7 +12,7 @@ ghost use Rattle.table_log.specs.Counts.{commit_count};
 ghost use Rattle.table_log.specs.Restoring.{IsSoundCheckpoint, replayed};
 ghost use Rattle.table_log.specs.Versions.{commits_in, log_of, versions_from};
 ghost use Rattle.table_model.specs.Lawful.{IsLawful};
-ghost use Rattle.table_model.specs.Table.{Entry, is_stream_closed, last_batch};
+ghost use Rattle.table_model.specs.Table.{Entry, is_stream_closed, last_told};
 ghost use Rattle.table_store.specs.Holds.{Holds, HoldsFirst};
 ghost use Rattle.table_store.specs.Logs.{IsLog};
 ghost use Rattle.table_store.specs.Schema.{Schema};
@@ -29,12 +29,12 @@ pub fn a_sound_log_is_read()
 {}
 
 /// What a log leaves is what the table tells that the store holds: the number that an application has come to is that
-/// of its last batch, and its stream is closed where the table has it closed (of applications whose ids are text; for
+/// told last of it, and its stream is closed where the table has it closed (of applications whose ids are text; for
 /// any other, a stream that the log leaves open is open). In a sound store the schema by which the table is read is the
 /// table's, and so is the one by which it is written, where it is.
 pub fn a_sound_log_leaves_its_table()
     ensures number { (objects : Objects) (schema : Schema) (entries : List Entry) (commits : List (List Action)) (application : List ℕ) → Holds objects schema entries → IsLog objects commits
-        → last_number application commits ≡ option_map (λ b. b.number) (last_batch application entries) }
+        → last_number application commits ≡ option_map (λ t. t.number) (last_told application entries) }
     ensures closed { (objects : Objects) (schema : Schema) (entries : List Entry) (commits : List (List Action)) (application : List ℕ) → IsUtf8 application → Holds objects schema entries → IsLog objects commits
         → logs.is_closed application commits ≡ is_stream_closed application entries }
     ensures still_open { (objects : Objects) (schema : Schema) (entries : List Entry) (commits : List (List Action)) (application : List ℕ) → Holds objects schema entries → IsLog objects commits
@@ -51,7 +51,7 @@ pub fn a_sound_log_leaves_its_table()
 pub fn the_first_commits_leave_the_first_entries()
     ensures stand { (objects : Objects) (schema : Schema) (entries later : List Entry) → IsSoundStore objects → Holds objects schema (entries ++ later) → HoldsFirst objects schema 0 entries × IsLawful entries }
     ensures number { (objects : Objects) (schema : Schema) (entries : List Entry) (commits : List (List Action)) (application : List ℕ) → HoldsFirst objects schema 0 entries
-        → commits_in 0 (versions_from (length entries) 0 objects) ≡ Ok commits → last_number application commits ≡ option_map (λ b. b.number) (last_batch application entries) }
+        → commits_in 0 (versions_from (length entries) 0 objects) ≡ Ok commits → last_number application commits ≡ option_map (λ t. t.number) (last_told application entries) }
     ensures closed { (objects : Objects) (schema : Schema) (entries : List Entry) (commits : List (List Action)) (application : List ℕ) → IsUtf8 application → HoldsFirst objects schema 0 entries
         → commits_in 0 (versions_from (length entries) 0 objects) ≡ Ok commits → logs.is_closed application commits ≡ is_stream_closed application entries }
     ensures still_open { (objects : Objects) (schema : Schema) (entries : List Entry) (commits : List (List Action)) (application : List ℕ) → HoldsFirst objects schema 0 entries
@@ -69,7 +69,7 @@ pub fn a_checkpoint_leaves_what_its_log_leaves()
         → (log : List (List Action)) × (log_of objects ≡ Ok log) × ((key : Key) → at key commits ≡ at key log) }
     ensures refused { (use_checkpoints : Bool) (objects : Objects) (version : ℕ) → IsSoundStore objects → replayed use_checkpoints objects ≡ Err version → log_of objects ≡ Err version }
     ensures number { (use_checkpoints : Bool) (objects : Objects) (schema : Schema) (entries : List Entry) (commits : List (List Action)) (application : List ℕ) → IsSoundStore objects
-        → Holds objects schema entries → replayed use_checkpoints objects ≡ Ok commits → last_number application commits ≡ option_map (λ b. b.number) (last_batch application entries) }
+        → Holds objects schema entries → replayed use_checkpoints objects ≡ Ok commits → last_number application commits ≡ option_map (λ t. t.number) (last_told application entries) }
     ensures closed { (use_checkpoints : Bool) (objects : Objects) (schema : Schema) (entries : List Entry) (commits : List (List Action)) (application : List ℕ) → IsUtf8 application → IsSoundStore objects
         → Holds objects schema entries → replayed use_checkpoints objects ≡ Ok commits → logs.is_closed application commits ≡ is_stream_closed application entries }
     ensures read { (use_checkpoints : Bool) (objects : Objects) (schema : Schema) (entries : List Entry) (commits : List (List Action)) → IsSoundStore objects

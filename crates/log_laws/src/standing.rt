@@ -4,7 +4,7 @@ ghost use Rattle.std.specs.Prelude.{◌≡◌, ◌≤◌, ℕ, List, [], ◌∷�
 ghost use Rattle.store_core.specs.Objects.{Objects, HasObjectsOf};
 ghost use Rattle.table_model.specs.Appends.{TellsAppend, TellsClose};
 ghost use Rattle.table_model.specs.Reads.{is_offset, position};
-ghost use Rattle.table_model.specs.Table.{Batch, Entry, batches, is_stream_closed, last_batch};
+ghost use Rattle.table_model.specs.Table.{Batch, Told, Entry, batches, is_stream_closed, last_told};
 ghost use Rattle.table_model.specs.declared.reading.Offset.{Offset};
 ghost use Rattle.table_model.specs.declared.table.AppendAnswer.{AppendAnswer};
 ghost use Rattle.table_model.specs.declared.table.Closing.{Closing};
@@ -26,9 +26,9 @@ pub fn a_sound_table_grows_at_its_end()
 
 /// What a sound store's table has, the table of each store has that it grows to: a version stays the entry that it is,
 /// a batch stays, of whatever number, and a stream that is closed stays closed. So what an append or a close was
-/// answered stays true: its version, that the batch stands already, that a greater number of the application stands,
-/// that other rows stand under the number, that the stream is closed. And an application's last number never falls
-/// while the store stays sound.
+/// answered stays true: its version, that the batch is told already, that a greater number of the application is, that
+/// its number is with other rows or none, that the stream is closed. And an application's last number never falls while
+/// the store stays sound.
 pub fn what_a_sound_table_has_stays()
     ensures version { (objects more : Objects) (schema other : Schema) (entries others : List Entry) (version : ℕ) (entry : Entry) → IsSoundStore objects → HasObjectsOf objects more → Holds objects schema entries
         → Holds more other others → slice_get entries version ≡ Some entry → slice_get others version ≡ Some entry }
@@ -40,7 +40,7 @@ pub fn what_a_sound_table_has_stays()
         → Holds more other others → TellsAppend answer b entries → TellsAppend answer b others }
     ensures close { (objects more : Objects) (schema other : Schema) (entries others : List Entry) (answer : Closing) (application : List ℕ) → IsSoundStore objects → HasObjectsOf objects more → Holds objects schema entries
         → Holds more other others → TellsClose answer application entries → TellsClose answer application others }
-    ensures number { (objects more : Objects) (schema other : Schema) (entries others : List Entry) (b : Batch) → IsSoundStore objects → IsSoundStore more → HasObjectsOf objects more → Holds objects schema entries
-        → Holds more other others → last_batch b.application entries ≡ Some b
-        → (c : Batch) × (last_batch b.application others ≡ Some c) × (b.number ≤ c.number) }
+    ensures number { (objects more : Objects) (schema other : Schema) (entries others : List Entry) (t : Told) → IsSoundStore objects → IsSoundStore more → HasObjectsOf objects more → Holds objects schema entries
+        → Holds more other others → last_told t.application entries ≡ Some t
+        → (u : Told) × (last_told t.application others ≡ Some u) × (t.number ≤ u.number) }
 {}

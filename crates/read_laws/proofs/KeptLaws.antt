@@ -6,15 +6,14 @@ use Rattle.schema_tree.specs.Tree.{Tree}
 use Rattle.store_core.specs.Objects.{Objects, object_at}
 use Rattle.source_core.specs.ParquetFile.{KeepsLimits}
 use Rattle.delta_actions.specs.Names.{data_file_name}
-use Rattle.table_model.specs.Lawful.{BeginsWithCreation}
+use Rattle.table_model.specs.Lawful.{Begins}
 use Rattle.table_model.specs.Reads.{Answer, handed, beyond, bad_place, read, IsPart, MayEnd}
 use Rattle.table_model.specs.Table.{Batch, Entry, creation, group, close, batches_of, batches}
 use Rattle.table_model.specs.declared.reading.Offset.{Offset}
 use Rattle.table_model.proofs.PartLemmas.{read_is_part, read_ends}
 use Rattle.source_core.specs.Holds.{FileStands, HoldsFrom}
 use Rattle.source_core.specs.SoundTables.{IsSound}
-use Rattle.source_core.proofs.Callers.{HoldsFrom-fit}
-use Rattle.source_core.proofs.Callers.{Contains-first}
+use Rattle.source_core.proofs.Callers.{Contains-first, HoldsFrom-fit, batch_files}
 use Rattle.source_core.specs.Tailing.{ReadRows, ReadRefusal, read_by}
 use Rattle.read_laws.specs.Kept.{FileKept, KeepsTable, KeptFrom}
 use Rattle.read_laws.specs.Readable.{HasReadableFiles}
@@ -52,11 +51,11 @@ files_kept objects schema (b ∷ bs) stand limits =
 kept_from : (objects : Objects) (schema : Tree) (version : ℕ) (entries : List Entry) → HoldsFrom objects schema version entries → HasReadableFiles objects entries → KeptFrom objects schema version entries
 kept_from objects schema version [] holds limits = tt
 kept_from objects schema version (entry ∷ entries) holds limits =
-    let here = files_kept objects schema (batches_of entry) holds.1 (λ b bytes has. limits b bytes (Contains-append_left (batches_of entry) (batches entries) b has)) in
-    (holds.0, here, kept_from objects schema (suc version) entries holds.2 (λ b bytes has. limits b bytes (Contains-append_right (batches_of entry) (batches entries) b has)))
+    let here = files_kept objects schema (batches_of entry) (batch_files objects schema entry holds.1) (λ b bytes has. limits b bytes (Contains-append_left (batches_of entry) (batches entries) b has)) in
+    (holds.0, here, kept_from objects schema (suc version) entries holds.3 (λ b bytes has. limits b bytes (Contains-append_right (batches_of entry) (batches entries) b has)))
 
 -- a table with entries begins with its creation
-begins_by : (entries : List Entry) → entries ≢ [] → BeginsWithCreation entries → (rest : List Entry) × (entries ≡ creation ∷ rest)
+begins_by : (entries : List Entry) → entries ≢ [] → Begins entries → (rest : List Entry) × (entries ≡ creation ∷ rest)
 begins_by [] some begins = absurd (some refl)
 begins_by (creation ∷ rest) some begins = (rest, refl)
 begins_by (group bs ∷ rest) some begins = absurd begins

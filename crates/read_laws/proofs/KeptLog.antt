@@ -7,7 +7,7 @@ use Rattle.delta_actions.specs.Action as actions
 use Rattle.store_core.specs.Names.{commit_name, greatest_version}
 use Rattle.table_model.specs.Table.{Batch, Entry, batches_of}
 use Rattle.source_core.specs.Holds.{FileStands}
-use Rattle.source_core.proofs.Callers.{AreMadeFor}
+use Rattle.source_core.proofs.Callers.{AreMadeFor, files_stand as entry_stands}
 use Rattle.read_laws.specs.Kept.{FileKept, KeptFrom, KeepsTable}
 
 -- No commit of the version that comes next stands.
@@ -27,4 +27,4 @@ files_stand objects schema (b ∷ bs) kept = ((kept.0.0, kept.0.1, kept.0.2.file
 -- they stand for the entries
 pub are_made : (objects : Objects) (schema : Tree) (version : ℕ) (entries : List Entry) (kept : KeptFrom objects schema version entries) → AreMadeFor objects schema entries (made_of objects schema version entries kept)
 are_made objects schema version [] kept = tt
-are_made objects schema version (entry ∷ entries) kept = (kept.0.2.stand, files_stand objects schema (batches_of entry) kept.1, are_made objects schema (suc version) entries kept.2)
+are_made objects schema version (entry ∷ entries) kept = (kept.0.2.stand, entry_stands objects schema entry (files_stand objects schema (batches_of entry) kept.1), are_made objects schema (suc version) entries kept.2)

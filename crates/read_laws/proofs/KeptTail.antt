@@ -31,7 +31,8 @@ use Rattle.source_core.proofs.Callers.{AreFilesFound, IsEntryFound, AreEntriesFo
 use Rattle.source_core.proofs.Callers.{Ahead, Spot, stands, no_file, no_row, spotted}
 use Rattle.source_core.proofs.Callers.{KeepsRows, RemoveNone, TellNone, commit_at, files_at, plain_handed, plain_schema_for}
 use Rattle.table_log.specs.Versions.{commit}
-use Rattle.table_model.specs.Lawful.{BeginsWithCreation, NoCreation}
+use Rattle.table_model.specs.Lawful.{Begins, IsLater}
+use Rattle.table_model.proofs.Callers.{files_of-batches}
 use Rattle.delta_actions.specs.Action.{AddAction, MetaDataAction, RemoveAction, add, txn}
 use Rattle.delta_actions.specs.In.{add_in, meta_data_in, remove_in, txn_in}
 use Rattle.delta_actions.specs.Kinds.{PathAndKey}
@@ -66,7 +67,8 @@ entry_found objects schema entry made stand kept =
     beside_found (group bs) beside stand kept =
         let new : new_files beside ≡ paths_of (added beside) = new_files-added beside (AreFilesOf-new (numbers beside) (added beside) stand.files) in
         let are : AreFilesOf (map named bs) (added beside) = subst (λ (ns : List (List ℕ × ℕ)). AreFilesOf ns (added beside)) stand.numbered stand.files in
-        subst (λ (paths : List PathAndKey). AreFilesFound objects schema paths (map (λ b. b.rows) bs)) (sym new) (files_found objects schema bs (added beside) are kept)
+        let found : AreFilesFound objects schema (paths_of (added beside)) (files_of (group bs)) = subst (λ (rows : List (List Row)). AreFilesFound objects schema (paths_of (added beside)) rows) (sym (files_of-batches (group bs))) (files_found objects schema bs (added beside) are kept) in
+        subst (λ (paths : List PathAndKey). AreFilesFound objects schema paths (files_of (group bs))) (sym new) found
     beside_found (close application) beside stand kept = rw stand.actions tt
 
 -- so does each commit of a table
@@ -120,18 +122,18 @@ pub same_meta_data : (made : List actions.Action) → last_of (filter_map meta_d
 same_meta_data made = ap (λ (ms : List MetaDataAction). last_of ms) (sym (told-without_commit_info meta_data_in (λ d. refl) made))
 
 -- but for the creation none has a metadata
-tell_none : (objects : Objects) (schema : Tree) (entries : List Entry) (commits : List (List actions.Action)) → NoCreation entries → AreMadeFor objects schema entries commits → TellNone commits
-tell_none objects schema [] [] none made = tt
-tell_none objects schema [] (first ∷ commits) none made = absurd made
-tell_none objects schema (entry ∷ entries) [] none made = absurd made
-tell_none objects schema (creation ∷ entries) (first ∷ commits) none made = absurd none
-tell_none objects schema (group bs ∷ entries) (first ∷ commits) none made =
+tell_none : (objects : Objects) (schema : Tree) (entries : List Entry) (commits : List (List actions.Action)) → AllByRecursion IsLater entries → AreMadeFor objects schema entries commits → TellNone commits
+tell_none objects schema [] [] later made = tt
+tell_none objects schema [] (first ∷ commits) later made = absurd made
+tell_none objects schema (entry ∷ entries) [] later made = absurd made
+tell_none objects schema (creation ∷ entries) (first ∷ commits) later made = absurd later.0
+tell_none objects schema (group bs ∷ entries) (first ∷ commits) later made =
     let here : last_of (filter_map meta_data_in first) ≡ None =
     same_meta_data first ∙ ap (λ (ms : List MetaDataAction). last_of ms) (none_of_group meta_data_in no_meta_data (without_commit_info first) made.0.only) in
-    (here, tell_none objects schema entries commits none made.2)
-tell_none objects schema (close application ∷ entries) (first ∷ commits) none made =
+    (here, tell_none objects schema entries commits later.1 made.2)
+tell_none objects schema (close application ∷ entries) (first ∷ commits) later made =
     let here : last_of (filter_map meta_data_in first) ≡ None = same_meta_data first ∙ rw made.0.actions refl in
-    (here, tell_none objects schema entries commits none made.2)
+    (here, tell_none objects schema entries commits later.1 made.2)
 
 -- the creation's commit tells the schema
 creation_tells : (schema : Tree) (made : List actions.Action) → StandFor schema creation (without_commit_info made) → (told : SchemaText) × (schema_text_at (commit made) ≡ Some told) × (told.schema ≡ schema)
@@ -147,25 +149,25 @@ pub record IsPlain (schema : Tree) (commits : List (List actions.Action)) : Type
   pub goes_by : (place : Offset) → schema_for no_start (map commit commits) place ≡ Ok told
 
 -- so it is with a table that begins with its creation
-plain_log : (objects : Objects) (schema : Tree) (rest : List Entry) (commits : List (List actions.Action)) → NoCreation rest → AreMadeFor objects schema (creation ∷ rest) commits → IsPlain schema commits
-plain_log objects schema rest [] none made = absurd made
-plain_log objects schema rest (first ∷ commits) none made =
+plain_log : (objects : Objects) (schema : Tree) (rest : List Entry) (commits : List (List actions.Action)) → AllByRecursion IsLater rest → AreMadeFor objects schema (creation ∷ rest) commits → IsPlain schema commits
+plain_log objects schema rest [] later made = absurd made
+plain_log objects schema rest (first ∷ commits) later made =
     let told = creation_tells schema first made.0 in
-    let later = tell_none objects schema rest commits none made.2 in
+    let silent = tell_none objects schema rest commits later made.2 in
     record {
       told = told.0;
       is_schema = told.2;
-      keeps = (remove_none objects schema (creation ∷ rest) (first ∷ commits) made, later);
-      goes_by = λ place. plain_schema_for told.0 schema place first commits (log_readable objects schema rest (first ∷ commits) made) told.1 later;
+      keeps = (remove_none objects schema (creation ∷ rest) (first ∷ commits) made, silent);
+      goes_by = λ place. plain_schema_for told.0 schema place first commits (log_readable objects schema rest (first ∷ commits) made) told.1 silent;
     }
 
 -- and so with one that is kept
 pub kept_plain : (objects : Objects) (schema : Tree) (entries : List Entry) (kept : KeepsTable objects schema entries) → IsPlain schema (made_of objects schema 0 entries kept.kept)
 kept_plain objects schema entries kept =
     let commits = made_of objects schema 0 entries kept.kept in
-    let none : NoCreation kept.rest = subst BeginsWithCreation kept.begins kept.lawful.begins in
+    let later : AllByRecursion IsLater kept.rest = subst Begins kept.begins kept.lawful.begins in
     let made : AreMadeFor objects schema (creation ∷ kept.rest) commits = subst (λ (es : List Entry). AreMadeFor objects schema es commits) kept.begins (are_made objects schema 0 entries kept.kept) in
-    plain_log objects schema kept.rest commits none made
+    plain_log objects schema kept.rest commits later made
 
 -- ---- a read
 

@@ -3,9 +3,9 @@
 //! a function with an empty body whose contract is the law. The product calls no code of this crate.
 #![tactic(auto)]
 
-ghost use Rattle.std.specs.Prelude.{◌≡◌, ◌≢◌, ℕ, false, List, [], take, true, Ok};
+ghost use Rattle.std.specs.Prelude.{◌≡◌, ◌≢◌, ◌≤◌, ℕ, false, List, [], take, Ok};
 ghost use Rattle.store_core.specs.Objects.{Objects};
-ghost use Rattle.table_model.specs.Reads.{position, is_offset, IsPart, MayEnd};
+ghost use Rattle.table_model.specs.Reads.{begins_at, position, IsPart, IsPlace, MayEnd};
 ghost use Rattle.table_model.specs.Resumed.{beginning};
 ghost use Rattle.table_model.specs.Table.{Entry, rows};
 ghost use Rattle.table_model.specs.declared.reading.Offset.{Offset};
@@ -18,9 +18,9 @@ ghost use Rattle.read_laws.specs.Readable.{HasReadableFiles};
 ghost use Rattle.read_laws.specs.Readers.{Follow, IsReadAt, MayTellOfTable, OneRead, limit_of_all, next_of_all, rows_of_all, table_of_all};
 
 /// A read over a store that keeps a table hands out the part of the table from its offset on, up to its limit or the
-/// end of the log.
+/// end of the log, where a reader may begin there: so far at each offset.
 pub fn a_read_hands_out_a_part()
-    ensures { (objects : Objects) (schema : Schema) (entries : List Entry) (max : ℕ) (offset : Offset) (out : ReadRows) → KeepsTable objects schema entries
+    ensures { (objects : Objects) (schema : Schema) (entries : List Entry) (max : ℕ) (offset : Offset) (out : ReadRows) → KeepsTable objects schema entries → begins_at entries ≤ offset.version
         → read_by false objects max offset ≡ Ok out → IsPart max offset out.rows out.next entries × MayEnd false max out.rows out.next entries }
 {}
 
@@ -36,7 +36,7 @@ pub fn a_sound_store_keeps_its_table()
 /// behind those that were listed; or that the offset is behind the log, or in no file of its version. From an offset of
 /// the table it is refused only where a call was lost or memory ran out.
 pub fn what_a_read_may()
-    ensures { (schema : Schema) (offset : Offset) (entries : List Entry) (r : OneRead) → IsReadAt schema offset entries r → MayTellOfTable schema r.max offset entries r.end.answer }
+    ensures { (schema : Schema) (offset : Offset) (entries : List Entry) (r : OneRead) → begins_at entries ≤ offset.version → IsReadAt schema offset entries r → MayTellOfTable schema r.max offset entries r.end.answer }
 {}
 
 /// A store that keeps a table has all files that its commits bring, so that what a read is shown is the store as it was
@@ -54,7 +54,7 @@ pub fn a_kept_table_has_its_files()
 /// that this one keeps the table of the read before, grown by some entries, with sound checkpoints where it goes by
 /// them.
 pub fn reads_that_follow_hand_out_the_log()
-    ensures part { (schema : Schema) (reads : List OneRead) (offset : Offset) (entries : List Entry) → is_offset offset entries ≡ true → Follow schema reads offset entries
+    ensures part { (schema : Schema) (reads : List OneRead) (offset : Offset) (entries : List Entry) → IsPlace offset entries → Follow schema reads offset entries
         → IsPart (limit_of_all reads) offset (rows_of_all reads) (next_of_all reads offset) (table_of_all reads entries) }
     ensures from_beginning { (schema : Schema) (reads : List OneRead) (entries : List Entry) → Follow schema reads beginning entries
         → rows_of_all reads ≡ take (position (next_of_all reads beginning) (table_of_all reads entries)) (rows (table_of_all reads entries)) }

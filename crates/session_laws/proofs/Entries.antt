@@ -1,19 +1,21 @@
 -- Which entries of a table stand in a store, and the files of their batches.
 use Rattle.std.proofs.Common.{◌≡◌, ◌∙◌, ◌<◌, ◌≤◌, ◌+◌, ℕ, zero, suc, List, [], ◌∷◌, length, slice_get, Option, Some, None, Contains, inl, inr, refl, sym, ap, subst, arith}
-use Rattle.std.specs.List.{AllByRecursion}
+use Rattle.std.specs.List.{AllByRecursion, flat_map}
 use Rattle.std.proofs.lemmas.Bool.{cases_lt}
 use Rattle.std.proofs.lemmas.List.Elements.{Contains-append_cases, Contains-push_cases}
 use Rattle.store_core.specs.Objects.{Objects, object_at}
 use Rattle.delta_actions.specs.Action as actions
 use Rattle.delta_actions.specs.Commit.{IsCommit}
 use Rattle.store_core.specs.Names.{commit_name, greatest_version}
-use Rattle.table_model.specs.Table.{Batch, Entry, batches, batches_of}
+use Rattle.table_model.specs.Table.{Batch, Told, Entry, batches, batches_of, tells, told_of}
+use Rattle.table_model.proofs.Callers.{Contains-map, told-batches}
 use Rattle.table_store.specs.Commits.{IsCommitOf, StandFor, without_commit_info}
 use Rattle.table_store.specs.Holds.{FileStands, FilesStand, Holds, HoldsFrom, HoldsFirst, Stands}
 use Rattle.table_store.specs.Schema.{Schema}
 use Rattle.table_store.specs.Sound.{IsSound}
+use Rattle.table_store.proofs.Callers.{batch_files}
 use Rattle.table_store.proofs.HoldingOne.{one_commit, one_entry, some_is}
-use Rattle.commit_core.proofs.Callers.{count_held, sound_count}
+use Rattle.commit_core.proofs.Callers.{count_held, member_mapped, sound_count}
 
 -- ---- files
 
@@ -34,9 +36,19 @@ pub batch_file : (objects : Objects) (schema : Schema) (version : ℕ) (entries 
 batch_file objects schema version [] b stand has = absurd (omega (arith, has.1))
 batch_file objects schema version (entry ∷ entries) b stand has =
     elim (Contains-append_cases (batches_of entry) (batches entries) b has) [
-      | inl here ↦ all_has (FileStands objects schema) (batches_of entry) b stand.1 here
-      | inr later ↦ batch_file objects schema (suc version) entries b stand.2 later
+      | inl here ↦ all_has (FileStands objects schema) (batches_of entry) b (batch_files objects schema entry stand.1) here
+      | inr later ↦ batch_file objects schema (suc version) entries b stand.3 later
     ]
+
+-- ---- numbers
+
+-- what a batch tells is told in the table
+pub batch_told : (entries : List Entry) (b : Batch) → Contains (batches entries) b → Contains (flat_map tells entries) (told_of b)
+batch_told entries b has = subst (λ (ts : List Told). Contains ts (told_of b)) (sym (told-batches entries)) (Contains-map told_of (batches entries) b has)
+
+-- and what is told there, a batch tells
+pub told_batch : (entries : List Entry) (t : Told) → Contains (flat_map tells entries) t → (b : Batch) × Contains (batches entries) b × (told_of b ≡ t)
+told_batch entries t told = member_mapped told_of (batches entries) t (subst (λ (ts : List Told). Contains ts t) (told-batches entries) told)
 
 -- ---- versions
 
@@ -57,7 +69,7 @@ entry_at objects schema from zero (entry ∷ entries) holds within =
     subst (λ (v : ℕ). IsEntryAt objects schema (entry ∷ entries) 0 v) here (record { entry = entry; is = refl; stands = holds.0; files = holds.1 })
 entry_at objects schema from (suc place) (entry ∷ entries) holds within =
     let there : suc from + place ≡ from + suc place = omega arith in
-    subst (λ (v : ℕ). IsEntryAt objects schema (entry ∷ entries) (suc place) v) there (entry_later objects schema entry entries place (suc from + place) (entry_at objects schema (suc from) place entries holds.2 (omega (arith, within))))
+    subst (λ (v : ℕ). IsEntryAt objects schema (entry ∷ entries) (suc place) v) there (entry_later objects schema entry entries place (suc from + place) (entry_at objects schema (suc from) place entries holds.3 (omega (arith, within))))
 
 -- ---- what stands under a commit's name
 
@@ -82,4 +94,4 @@ module _ (objects : Objects) (schema : Schema) (entries : List Entry) (sound : I
       let same : at.stands.0 ≡ bytes = some_is at.stands.0 bytes (sym at.stands.1 ∙ stands) in
       let lists : at.stands.2.actions ≡ made = one_commit bytes at.stands.2.actions made (subst (λ (t : List ℕ). IsCommit t at.stands.2.actions) same at.stands.2.commit) commit in
       let found : StandFor schema at.entry (without_commit_info made) = subst (λ (m : List actions.Action). StandFor schema at.entry (without_commit_info m)) lists at.stands.2.stand in
-      at.is ∙ ap (λ (e : Entry). Some e) (one_entry objects schema at.entry entry (without_commit_info made) found own at.files files)
+      at.is ∙ ap (λ (e : Entry). Some e) (one_entry objects schema at.entry entry (without_commit_info made) found own at.files.given files.given)

@@ -1,6 +1,6 @@
 -- The commits behind the first one of a sound store have no metadata.
 use Rattle.std.proofs.Common.{◌≡◌, ◌∙◌, ◌+◌, ◌≤◌, ◌<◌, ◌||◌, ℕ, zero, suc, List, [], ◌∷◌, length, slice_get, Bool, false, Option, Some, None, refl, sym, ap, subst, arith}
-use Rattle.std.specs.List.{list_any}
+use Rattle.std.specs.List.{AllByRecursion, list_any}
 use Rattle.store_core.specs.Objects.{Objects, object_at}
 use Rattle.delta_actions.specs.Action as actions
 use Rattle.delta_actions.specs.Action.{Action, add, checkpoint_metadata, commit_info, domain_metadata, meta_data, other, protocol, remove, sidecar, txn}
@@ -9,7 +9,7 @@ use Rattle.store_core.specs.Names.{commit_name, greatest_version}
 use Rattle.delta_replay.specs.Keys.{is_of, the_meta_data}
 use Rattle.table_log.specs.Versions.{commit, commit_of, version_at, version_by, version_read}
 use Rattle.table_log.proofs.CommitBytes.{commit_is}
-use Rattle.table_model.specs.Lawful.{BeginsWithCreation, NoCreation}
+use Rattle.table_model.specs.Lawful.{Begins, IsLater}
 use Rattle.table_model.specs.Table.{Entry, creation, group, close}
 use Rattle.table_store.specs.Commits.{StandFor, without_commit_info}
 use Rattle.table_store.specs.Groups.{AreTxnsAndAdds}
@@ -47,9 +47,9 @@ plain_group (txn t ∷ made) only = plain_group made only
 plain_group (add a ∷ made) only = plain_group made only
 plain_group (_ ∷ made) only = absurd cc
 
--- nor any entry's but a creation's
-plain_entry : (schema : Schema) (entry : Entry) (made : List Action) → (entry ≡ creation → ⊥) → StandFor schema entry (without_commit_info made) → has_metadata made ≡ false
-plain_entry schema creation made later stand = absurd (later refl)
+-- nor any later entry's
+plain_entry : (schema : Schema) (entry : Entry) (made : List Action) → IsLater entry → StandFor schema entry (without_commit_info made) → has_metadata made ≡ false
+plain_entry schema creation made later stand = absurd later
 plain_entry schema (group bs) made later stand = beside made ∙ plain_group (without_commit_info made) stand.only
 plain_entry schema (close application) made later stand = beside made ∙ ap has_metadata stand.actions
 
@@ -58,20 +58,17 @@ plain_entry schema (close application) made later stand = beside made ∙ ap has
 some_entry : (one another : Entry) → Some one ≡ Some another → one ≡ another
 some_entry one another is = cc
 
--- behind the first entry of a lawful table there is no creation
-no_creation : (entries : List Entry) (place : ℕ) (entry : Entry) → NoCreation entries → slice_get entries place ≡ Some entry → entry ≡ creation → ⊥
-no_creation [] place entry none is same = absurd cc
-no_creation (creation ∷ entries) place entry none is same = none
-no_creation (group bs ∷ entries) zero entry none is same = let wrong : group bs ≡ creation = some_entry (group bs) entry is ∙ same in absurd cc
-no_creation (close application ∷ entries) zero entry none is same = let wrong : close application ≡ creation = some_entry (close application) entry is ∙ same in absurd cc
-no_creation (group bs ∷ entries) (suc place) entry none is same = no_creation entries place entry none is same
-no_creation (close application ∷ entries) (suc place) entry none is same = no_creation entries place entry none is same
+-- behind the first entry of a lawful table each is a later one
+later_at : (entries : List Entry) (place : ℕ) (entry : Entry) → AllByRecursion IsLater entries → slice_get entries place ≡ Some entry → IsLater entry
+later_at [] place entry later is = absurd cc
+later_at (first ∷ entries) zero entry later is = subst IsLater (some_entry first entry is) later.0
+later_at (first ∷ entries) (suc place) entry later is = later_at entries place entry later.1 is
 
-later_entry : (entries : List Entry) (place : ℕ) (entry : Entry) → BeginsWithCreation entries → 0 < place → slice_get entries place ≡ Some entry → entry ≡ creation → ⊥
-later_entry [] place entry begins some is same = absurd cc
-later_entry (creation ∷ entries) zero entry begins some is same = absurd (omega (arith, some))
-later_entry (creation ∷ entries) (suc place) entry begins some is same = no_creation entries place entry begins is same
-later_entry (_ ∷ entries) place entry begins some is same = absurd begins
+later_entry : (entries : List Entry) (place : ℕ) (entry : Entry) → Begins entries → 0 < place → slice_get entries place ≡ Some entry → IsLater entry
+later_entry [] place entry begins some is = absurd cc
+later_entry (creation ∷ entries) zero entry begins some is = absurd (omega (arith, some))
+later_entry (creation ∷ entries) (suc place) entry begins some is = later_at entries place entry begins is
+later_entry (_ ∷ entries) place entry begins some is = absurd begins
 
 -- ---- what stands
 

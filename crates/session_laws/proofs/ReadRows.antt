@@ -10,7 +10,7 @@ use Rattle.schema_tree.specs.Tree.{Tree}
 use Rattle.table_log.specs.Counts.{commit_count, count_in}
 use Rattle.table_log.specs.Restoring.{RestoresWell}
 use Rattle.table_log.specs.Versions.{Version, versions_from, versions_of}
-use Rattle.table_model.specs.Lawful.{BeginsWithCreation}
+use Rattle.table_model.specs.Lawful.{Begins}
 use Rattle.table_model.specs.Table.{Entry}
 use Rattle.table_store.specs.Holds.{Holds}
 use Rattle.table_store.specs.Schema.{Schema}
@@ -124,7 +124,7 @@ module _ (objects : Objects) (schema : Schema) (entries : List Entry) (sound : I
     -- where it had an entry, it is of the same schema
     schema_is : (first : Entry) (rest : List Entry) → table.entries ≡ first ∷ rest → table.schema ≡ schema
     schema_is first rest is =
-        same_schema listed objects table.schema was.grown schema first rest entries (subst BeginsWithCreation is table.lawful.begins) (subst (Holds listed table.schema) is table.holds) holds
+        same_schema listed objects table.schema was.grown schema first rest entries (subst Begins is table.lawful.begins) (subst (Holds listed table.schema) is table.holds) holds
 
     of_table : (own : List Entry) → table.entries ≡ own → TellsOfListed schema own job end.answer
     of_table [] is =

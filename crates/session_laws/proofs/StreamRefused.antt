@@ -21,7 +21,6 @@ use Rattle.table_model.specs.Lawful.{IsLawful}
 use Rattle.table_model.specs.Table.{Batch, Entry}
 use Rattle.table_model.specs.declared.table.AppendAnswer.{AppendAnswer}
 use Rattle.table_model.specs.declared.table.AppendAnswer.TheVariants as appended
-use Rattle.table_model.proofs.Callers.{last_stands}
 use Rattle.table_store.specs.Holds.{FileStands, Holds, Stands}
 use Rattle.table_store.specs.Schema.{Schema, IsFileOf}
 use Rattle.commit_core.specs.SoundStores.{IsSoundStore}
@@ -141,10 +140,9 @@ module _ (objects : Objects) (schema : Schema) (entries : List Entry) (sound : I
   looked_stands front name request own (repeated _ number _ is) =
       let own_batch = ruled_batch objects schema entries sound holds job before front known_before own is.known is.tries (rules is.old) is.reaches number is.items request is.task is.asked in
       let b = batch_by job number request.rows in
-      let again = again_answer objects schema entries is.known.next own_batch.front.log own_batch.front.front b (own_batch.numbered_so ∙ ap (λ r. Ok r) is.again) in
-      let last = last_stands job.application own_batch.front.front.firsts again.0 again.1 in
-      let there : FileStands objects schema again.0 = batch_file objects schema 0 own_batch.front.front.firsts again.0 own_batch.front.front.stand last.0 in
-      let name_is : data_file_name again.0.application again.0.number ≡ file_of job number = ap₂ data_file_name last.1 again.2 ∙ sym (file_named job.application number) in
+      let last = again_answer objects schema entries is.known.next own_batch.front.log own_batch.front.front b (own_batch.numbered_so ∙ ap (λ r. Ok r) is.again) in
+      let there : FileStands objects schema last.batch = batch_file objects schema 0 own_batch.front.front.firsts last.batch own_batch.front.front.stand last.stands in
+      let name_is : data_file_name last.batch.application last.batch.number ≡ file_of job number = ap₂ data_file_name last.application_is last.number_is ∙ sym (file_named job.application number) in
       let stands : object_at objects (file_of job number) ≡ Some there.0 = ap (object_at objects) (sym name_is) ∙ there.1 in
       record { number = number; schema_is = own_batch.schema_is; of_job = own_batch.of_job; named = file_named job.application number; stands = rw stands refl }
   looked_stands front name request own (sinks.taken begun _ number _ file is written talked) =

@@ -11,12 +11,13 @@ use Rattle.delta_actions.specs.Commit.{IsCommit}
 use Rattle.delta_actions.specs.Names.{data_file_name}
 use Rattle.delta_actions.specs.declared.action.Action.{Action as CodeAction}
 use Rattle.table_model.specs.Appends.{TellsClose}
-use Rattle.table_model.specs.Table.{Batch, Entry, batches, close, group, last_batch}
+use Rattle.table_model.specs.Table.{Batch, Entry, batches, close, group}
 use Rattle.table_model.specs.declared.table.AppendAnswer.TheVariants as appended
 use Rattle.table_model.specs.declared.table.Closing.TheVariants as closed
-use Rattle.table_model.proofs.Callers.{batch_lasts, last_stands}
+use Rattle.table_model.proofs.Callers.{batch_lasts}
 use Rattle.table_store.specs.Holds.{FileStands, Holds, Stands}
 use Rattle.table_store.specs.Schema.{Schema, IsFileOf}
+use Rattle.table_store.proofs.Callers.{files_stand}
 use Rattle.table_store.proofs.HoldingOne.{one_file, one_object}
 use Rattle.commit_core.specs.SoundStores.{IsSoundStore}
 use Rattle.commit_core.proofs.Callers.{asked_last}
@@ -32,12 +33,12 @@ use Rattle.sink_core.specs.SinkSessions.{AnswerEnds, InRace, SinkAsks, SinkJob, 
 use Rattle.sink_core.specs.declared.sink_state.SinkOutcome.TheVariants.{Already, AlreadyClosed, Closed, Committed}
 use Rattle.sink_core.proofs.ReachLemmas.{reaches_reads}
 use Rattle.session_laws.specs.Rows.{TellsOfBatch}
-use Rattle.session_laws.proofs.Entries.{batch_file, has_entry}
+use Rattle.session_laws.proofs.Entries.{batch_file, batch_told, has_entry}
 use Rattle.session_laws.proofs.Files.{same_file}
 use Rattle.session_laws.proofs.Fronts.{IsFrontOf, reached_front}
 use Rattle.session_laws.proofs.Ready.{batch_by, file_named, ready_batch, ruled_batch}
 use Rattle.session_laws.proofs.StreamPuts.{batch_commit, batch_made, close_commit, close_made}
-use Rattle.session_laws.proofs.TableAnswers.{again_answer, close_answer}
+use Rattle.session_laws.proofs.TableAnswers.{HasBatch, again_answer, close_answer}
 
 -- of batches with the same names, whose files stand, the rows are the same
 same_rows_stand : (objects : Objects) (schema : Schema) (b c : Batch) → b.application ≡ c.application → b.number ≡ c.number → FileStands objects schema b → FileStands objects schema c → b ≡ c
@@ -84,7 +85,7 @@ module _ (objects : Objects) (schema : Schema) (entries : List Entry) (sound : I
       let b = batch_by job task.0 r.readied.rows in
       let text = commit_text (commit_actions job r.readied) in
       let made = batch_commit schema b job.at r.readied.size text (subst (IsCommit text) (batch_made job r.readied task.0 task.1 task.2) (put_reads version r)) in
-      let is = has_entry objects schema entries sound.table holds version text made.actions (group (b ∷ [])) (put_small version r) (put_stands version r) made.commit made.stand ((own.file.0, own.file.1, own.file.2.0), tt) in
+      let is = has_entry objects schema entries sound.table holds version text made.actions (group (b ∷ [])) (put_small version r) (put_stands version r) made.commit made.stand (files_stand objects schema (group (b ∷ [])) ((own.file.0, own.file.1, own.file.2.0), tt)) in
       (b, own.of_job, (group (b ∷ []), is, (0, omega arith, refl)))
 
   -- or the close
@@ -92,20 +93,19 @@ module _ (objects : Objects) (schema : Schema) (entries : List Entry) (sound : I
   closed_tells utf8 version (task, r) =
       let text = commit_text (commit_actions job r.readied) in
       let made = close_commit schema job.application job.at text utf8 (subst (IsCommit text) (close_made job r.readied task) (put_reads version r)) in
-      let is = has_entry objects schema entries sound.table holds version text made.actions (close job.application) (put_small version r) (put_stands version r) made.commit made.stand tt in
+      let is = has_entry objects schema entries sound.table holds version text made.actions (close job.application) (put_small version r) (put_stands version r) made.commit made.stand (files_stand objects schema (close job.application) tt) in
       (close job.application, is, (0, omega arith, refl))
 
   -- ---- it stands already
 
-  -- the batch of the application's last number, where its own rows stand under its name
-  last_is_own : (number next : ℕ) (log : List _) (front : IsFrontOf objects schema entries next log) (before_batch : Batch) (rows : List Row) → last_batch job.application front.firsts ≡ Some before_batch → before_batch.number ≡ number
+  -- the batch of the application's last number, where the job's own rows stand under its name
+  last_is_own : (number next : ℕ) (log : List _) (front : IsFrontOf objects schema entries next log) (rows : List Row) → HasBatch job.application number front.firsts
       → Stands objects (data_file_name job.application number) (λ file. IsFileOf schema file rows) → Contains (batches entries) (batch_by job number rows)
-  last_is_own number next log front last rows is number_is file =
-      let stands = last_stands job.application front.firsts last is in
-      let there : FileStands objects schema last = batch_file objects schema 0 front.firsts last front.stand stands.0 in
-      let same : last ≡ batch_by job number rows = same_rows_stand objects schema last (batch_by job number rows) stands.1 number_is there file in
-      let has = batch_lasts last front.firsts front.later stands.0 in
-      subst (λ (b : Batch). Contains (batches entries) b) same (subst (λ (es : List Entry). Contains (batches es) last) (sym front.split) has)
+  last_is_own number next log front rows last file =
+      let there : FileStands objects schema last.batch = batch_file objects schema 0 front.firsts last.batch front.stand last.stands in
+      let same : last.batch ≡ batch_by job number rows = same_rows_stand objects schema last.batch (batch_by job number rows) last.application_is last.number_is there file in
+      let has = batch_lasts last.batch front.firsts front.later last.stands in
+      subst (λ (b : Batch). Contains (batches entries) b) same (subst (λ (es : List Entry). Contains (batches es) last.batch) (sym front.split) has)
 
   pub already_tells : (number : ℕ) → AnswerEnds job before talk (Ok (Already number)) → TellsOfBatch schema entries job (appended.Already number)
   already_tells number (front, request, found, is, talked, same) = by_found found talked same
@@ -119,14 +119,13 @@ module _ (objects : Objects) (schema : Schema) (entries : List Entry) (sound : I
           let got : object_at objects (file_of job number) ≡ Some bytes = (bears_end objects front call both).0 in
           let ruled = ruled_batch objects schema entries sound holds job before front known_before own is.known is.tries (rules is.old) is.reaches number is.items request is.task is.asked in
           let b = batch_by job number request.rows in
-          let again = again_answer objects schema entries is.known.next ruled.front.log ruled.front.front b (ruled.numbered_so ∙ ap (λ r. Ok r) is.again) in
-          let last = last_stands job.application ruled.front.front.firsts again.0 again.1 in
-          let there : FileStands objects schema again.0 = batch_file objects schema 0 ruled.front.front.firsts again.0 ruled.front.front.stand last.0 in
+          let last = again_answer objects schema entries is.known.next ruled.front.log ruled.front.front b (ruled.numbered_so ∙ ap (λ r. Ok r) is.again) in
+          let there : FileStands objects schema last.batch = batch_file objects schema 0 ruled.front.front.firsts last.batch ruled.front.front.stand last.stands in
           let alike_here : has_same schema request.rows (Some bytes) ≡ true = subst (λ (t : Schema). has_same t request.rows (Some bytes) ≡ true) ruled.schema_is alike in
           let file : IsFileOf schema bytes request.rows = same_file schema request.rows bytes there.2.within (are (file_of job number) bytes got) alike_here in
           let named = file_named job.application number in
-          let has = last_is_own number is.known.next ruled.front.log ruled.front.front again.0 request.rows again.1 again.2 (bytes, ap (object_at objects) (sym named) ∙ got, file) in
-          (b, ruled.of_job, (refl, has))
+          let has = last_is_own number is.known.next ruled.front.log ruled.front.front request.rows last (bytes, ap (object_at objects) (sym named) ∙ got, file) in
+          (b, ruled.of_job, (refl, batch_told entries b has))
 
   pub already_closed_tells : IsUtf8 job.application → AnswerEnds job before talk (Ok AlreadyClosed) → TellsClose closed.AlreadyClosed job.application entries
   already_closed_tells utf8 (task, (old, is)) =

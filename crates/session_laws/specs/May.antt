@@ -6,7 +6,7 @@ use Rattle.session_core.specs.Talks.{Asked, Bears, Talk, Told, asked_view, list_
 use Rattle.session_core.specs.declared.session.Step.{Step}
 use Rattle.session_core.specs.declared.session.Step.TheVariants.{Ask, Done}
 use Rattle.table_model.specs.Table.{Entry}
-use Rattle.table_store.specs.Holds.{Holds}
+use Rattle.table_store.specs.Holds.{Holds, IsFreeIn}
 use Rattle.table_store.specs.Schema.{Schema}
 use Rattle.commit_core.specs.SoundStores.{IsSoundStore}
 use Rattle.commit_core.specs.CreateSessions.{IsCreationOf, MayTellOfCreation}
@@ -30,12 +30,12 @@ pub record BearsSession (objects : Objects) (schema : Schema) (entries : List En
 
 -- ---- what it may do
 
--- Lists and gets change nothing, and any may be asked for; a load and a read ask for nothing else. A stream puts its batch's file and its
--- commit, a creation its commit, and a checkpoint's put a checkpoint; a commit is admissible at the version that comes next.
+-- Lists and gets change nothing, and any may be asked for; a load and a read ask for nothing else. A stream puts its batch's file, under a name that no
+-- entry lacks, and its commit, a creation its commit, and a checkpoint's put a checkpoint; a commit is admissible at the version that comes next.
 abbrev pub MayAsk : Objects → Schema → Job → Talk → Asked → Type 0
 MayAsk objects schema job talk list_names = Unit {0}
 MayAsk objects schema job talk (get_object name) = Unit {0}
-MayAsk objects schema (streams job) talk (put_file name bytes) = IsFineJob job × IsJobFile schema job name bytes
+MayAsk objects schema (streams job) talk (put_file name bytes) = IsFineJob job × IsJobFile schema job name bytes × IsFreeIn objects name
 MayAsk objects schema (checkpoints job) talk (put_file name bytes) = IsCheckpointPut objects name bytes
 MayAsk objects schema (streams job) talk (put_commit version bytes) = IsFineJob job × MayPutNext objects talk version bytes × IsJobCommit objects schema job bytes
 MayAsk objects schema (creates job) talk (put_commit version bytes) = MayPutNext objects talk version bytes × IsCreationOf job bytes

@@ -75,7 +75,7 @@ module _ (events : List Event) (objects : Objects) (schema : Schema) (entries : 
     stream_good (get_object name) asks_so may of_bytes = tt
     stream_good (put_file name bytes) asks_so may of_bytes =
         let file = may.1 in
-        (a_file schema (some_table job_begun before talk earlier borne asks_so.1.is.reaches) (job, submitted, (file.0, batch_begun schema job load file.0 file.1, file.2, file.3, file.4)), of_bytes)
+        (a_file schema (some_table job_begun before talk earlier borne asks_so.1.is.reaches) (job, submitted, (file.0, batch_begun schema job load file.0 file.1, file.2, file.3, file.4)) may.2, of_bytes)
     stream_good (put_commit version bytes) asks_so may of_bytes =
         let r = asks_so.1 in
         let table = some_table job_begun before r.front earlier (bears_front objects r.front r.race (subst (Bears objects) r.talked borne)) r.reaches in

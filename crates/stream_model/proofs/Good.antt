@@ -8,8 +8,8 @@ use Rattle.session_core.specs.Talks.{Asked, Bears, IsBorne, Talk, get_object, li
 use Rattle.session_core.proofs.Callers.{bears_grows, borne_grows}
 use Rattle.store_core.specs.Names.{commit_name}
 use Rattle.table_model.specs.Appends.{TellsAppend, TellsClose}
-use Rattle.table_model.specs.Lawful.{BeginsWithCreation}
-use Rattle.table_model.specs.Table.{Batch, Entry}
+use Rattle.table_model.specs.Lawful.{Begins}
+use Rattle.table_model.specs.Table.{Batch, Entry, told_of}
 use Rattle.table_model.specs.declared.table.AppendAnswer.{AppendAnswer}
 use Rattle.table_model.specs.declared.table.AppendAnswer.TheVariants as appended
 use Rattle.table_model.specs.declared.table.Closing.{Closing}
@@ -130,8 +130,8 @@ world_more events event outs w good = record {
 -- nothing is told of an empty table
 none_told : (answer : AppendAnswer) (b : Batch) → TellsAppend answer b [] → ⊥
 none_told (appended.Committed version) b facts = let no = facts.1 in absurd cc
-none_told (appended.Already number) b facts = none_in b facts.1
-none_told (appended.Stale last) b facts = none_in _ facts.2
+none_told (appended.Already number) b facts = none_in (told_of b) facts.1
+none_told (appended.Stale last) b facts = none_in last facts.1
 none_told appended.Differs b facts = none_in _ facts.2
 none_told appended.StreamClosed b facts = none_in b.application facts.0
 
@@ -170,7 +170,7 @@ module _ (laws : AreLaws) (objects more : Objects) (sound : IsSound objects) (st
   batch_lasts_on : (schema : Schema) (entries : List Entry) → Holds more schema entries → (job : SinkJob) (answer : AppendAnswer) → TellsOfBatch sound.schema sound.entries job answer → TellsOfBatch schema entries job answer
   batch_lasts_on schema entries held job answer told = by_entries sound.entries sound.holds sound.lawful.begins told
     where
-      by_entries : (own : List Entry) → Holds objects sound.schema own → BeginsWithCreation own → TellsOfBatch sound.schema own job answer → TellsOfBatch schema entries job answer
+      by_entries : (own : List Entry) → Holds objects sound.schema own → Begins own → TellsOfBatch sound.schema own job answer → TellsOfBatch schema entries job answer
       by_entries [] holds begins (b, of_job, facts) = absurd (none_told answer b facts)
       by_entries (first ∷ rest) holds begins (b, of_job, facts) =
           let same : sound.schema ≡ schema = same_schema objects more sound.schema grown schema first rest entries begins holds held in
@@ -209,7 +209,7 @@ module _ (laws : AreLaws) (objects more : Objects) (sound : IsSound objects) (st
   part_lasts schema entries held job (Ok out) part = by_entries sound.entries sound.holds sound.lawful.begins part
     where
       -- a table that rows were handed out of has a version, and so its schema stays
-      by_entries : (own : List Entry) → Holds objects sound.schema own → BeginsWithCreation own → IsPartOfTable sound.schema own job (Ok out) → IsPartOfTable schema entries job (Ok out)
+      by_entries : (own : List Entry) → Holds objects sound.schema own → Begins own → IsPartOfTable sound.schema own job (Ok out) → IsPartOfTable schema entries job (Ok out)
       by_entries [] holds begins none = absurd none
       by_entries (first ∷ rest) holds begins own =
           let same : sound.schema ≡ schema = same_schema objects more sound.schema grown schema first rest entries begins holds held in

@@ -8,6 +8,7 @@ use Rattle.table_model.specs.Table.{Batch, Entry}
 use Rattle.table_store.specs.Holds.{FileStands, Holds}
 use Rattle.table_store.specs.Schema.{Schema}
 use Rattle.table_store.specs.Sound.{IsAdmissible, IsSound}
+use Rattle.table_store.proofs.Callers.{all_free}
 use Rattle.table_store.proofs.HoldingGrown.{front, same_schema}
 use Rattle.table_store.proofs.HoldingSchema.{only_table}
 use Rattle.table_model.specs.Lawful.{IsLawful}
@@ -43,7 +44,7 @@ module _ (objects more : Objects) (sound : IsSound objects) (still : IsSound mor
       → IsGoodPut events objects name bytes → IsGoodPut events more name bytes
   put_grows events name bytes commit_stays checkpoint_stays (a_commit version named new made) = a_commit version named (commit_stays version new) (made_grows events version bytes made)
   put_grows events name bytes commit_stays checkpoint_stays (a_checkpoint version named one) = a_checkpoint version named (checkpoint_stays version one)
-  put_grows events name bytes commit_stays checkpoint_stays (a_file schema table file) = a_file schema (table_grows schema table) file
+  put_grows events name bytes commit_stays checkpoint_stays (a_file schema table file free) = a_file schema (table_grows schema table) file (λ other those holds. all_free those name)
 
 -- ---- more events
 
@@ -65,4 +66,4 @@ made_more events event objects version bytes (closes schema job submitted task c
 pub put_more : (events : List Event) (event : Event) (objects : Objects) (name bytes : List ℕ) → IsGoodPut events objects name bytes → IsGoodPut (events ++ event ∷ []) objects name bytes
 put_more events event objects name bytes (a_commit version named new made) = a_commit version named new (made_more events event objects version bytes made)
 put_more events event objects name bytes (a_checkpoint version named one) = a_checkpoint version named one
-put_more events event objects name bytes (a_file schema table file) = a_file schema table (file_more events event schema name bytes file)
+put_more events event objects name bytes (a_file schema table file free) = a_file schema table (file_more events event schema name bytes file) free

@@ -12,19 +12,19 @@ use Rattle.delta_actions.specs.Names.{data_file_name}
 use Rattle.table_log.specs.Restoring.{IsSoundCheckpoint, checkpoint_version}
 use Rattle.store_core.specs.Names.{commit_name}
 use Rattle.table_log.proofs.Callers.{commit_is_none, data_file_is_none}
-use Rattle.table_model.specs.Lawful.{BeginsWithCreation}
+use Rattle.table_model.specs.Lawful.{Begins}
 use Rattle.table_model.specs.Table.{Batch, Entry, batches, batches_of, close, creation, group}
 use Rattle.table_model.proofs.Callers.{batches-append}
 use Rattle.table_store.specs.Commits.{IsClose, IsCommitOf, IsCreation, IsGroupOf, StandFor, without_commit_info}
-use Rattle.table_store.specs.Holds.{FileStands, Holds, HoldsFirst, HoldsFrom}
+use Rattle.table_store.specs.Holds.{FileStands, Holds, HoldsFirst, HoldsFrom, IsFreeIn}
 use Rattle.table_store.specs.Schema.{Schema}
 use Rattle.table_store.specs.Sound.{IsAdmissible, IsSound}
-use Rattle.table_store.proofs.Callers.{commit_name-data_file_name, commit_name-once}
+use Rattle.table_store.proofs.Callers.{all_free, commit_name-data_file_name, commit_name-once}
 use Rattle.table_store.proofs.HeldLemmas.{HoldsFirst-end}
 use Rattle.table_store.proofs.HoldingOne.{close_no_creation, one_entry, one_list, one_object}
 use Rattle.table_store.proofs.HoldingSchema.{one_creation_of, one_schema, only_table}
-use Rattle.table_store.proofs.HoldingKept.{FilesStand-kept, Stands-kept}
-use Rattle.table_store.proofs.HoldingPuts.{HoldsFrom-commit}
+use Rattle.table_store.proofs.HoldingKept.{Stands-kept}
+use Rattle.table_store.proofs.HoldingPuts.{FilesStand-put, HoldsFrom-commit}
 use Rattle.log_laws.specs.Sound.{IsSoundStore}
 use Rattle.sink_core.specs.SinkSessions.{SinkJob}
 use Rattle.session_laws.specs.CreateSessions.{CreateJob, IsCreationOf}
@@ -112,7 +112,7 @@ group_no_close : (application : List ℕ) (bs : List Batch) (beside : List actio
 group_no_close application bs beside p q = let no : false ≡ true = rw q.actions at p.only in absurd cc
 
 -- a table with one entry more has the schema of each table that the store holds
-schema_held : (objects : Objects) (schema second : Schema) (entries : List Entry) (entry : Entry) (others : List Entry) → BeginsWithCreation (entries ++ entry ∷ []) → Holds objects schema (entries ++ entry ∷ []) → Holds objects second others → schema ≡ second
+schema_held : (objects : Objects) (schema second : Schema) (entries : List Entry) (entry : Entry) (others : List Entry) → Begins (entries ++ entry ∷ []) → Holds objects schema (entries ++ entry ∷ []) → Holds objects second others → schema ≡ second
 schema_held objects schema second [] entry others begins p q = one_schema objects schema second entry [] others begins p q
 schema_held objects schema second (first ∷ entries) entry others begins p q = one_schema objects schema second first (entries ++ entry ∷ []) others begins p q
 
@@ -127,9 +127,9 @@ module _ (events : List Event) (objects : Objects) (sound : IsSound objects) (ve
 
   -- the first entry of a table has no batch
   first_none : new.entries ≡ [] → (b : Batch) → Contains (batches_of new.entry) b → ⊥
-  first_none is b has = by_entry new.entry (subst (λ (es : List Entry). BeginsWithCreation (es ++ new.entry ∷ [])) is new.lawful.begins) has
+  first_none is b has = by_entry new.entry (subst (λ (es : List Entry). Begins (es ++ new.entry ∷ [])) is new.lawful.begins) has
     where
-      by_entry : (entry : Entry) → BeginsWithCreation (entry ∷ []) → Contains (batches_of entry) b → ⊥
+      by_entry : (entry : Entry) → Begins (entry ∷ []) → Contains (batches_of entry) b → ⊥
       by_entry creation begins none = none_in b none
       by_entry (group bs) begins some = begins
       by_entry (close application) begins none = none_in b none
@@ -151,7 +151,7 @@ module _ (events : List Event) (objects : Objects) (sound : IsSound objects) (ve
       let own : IsCommitOf new.schema (group (c ∷ [])) bytes = subst (λ (s : Schema). IsCommitOf s (group (c ∷ [])) bytes) same commit in
       let own_file : FileStands objects new.schema c = subst (λ (s : Schema). FileStands objects s c) same file in
       let lists = one_list bytes bytes new.schema new.schema new.entry (group (c ∷ [])) refl new.commit own in
-      let entry : new.entry ≡ group (c ∷ []) = one_entry objects new.schema new.entry (group (c ∷ [])) (without_commit_info own.actions) (subst (λ (made : List actions.Action). StandFor new.schema new.entry (without_commit_info made)) lists new.commit.stand) own.stand new.files (own_file, tt) in
+      let entry : new.entry ≡ group (c ∷ []) = one_entry objects new.schema new.entry (group (c ∷ [])) (without_commit_info own.actions) (subst (λ (made : List actions.Action). StandFor new.schema new.entry (without_commit_info made)) lists new.commit.stand) own.stand new.files.given (own_file, tt) in
       (same, one_batch b c (subst (λ (e : Entry). Contains (batches_of e) b) entry has))
 
   -- the batches of the entry that an admissible commit of a job adds were handed in
@@ -188,9 +188,9 @@ module _ (events : List Event) (objects : Objects) (sound : IsSound objects) (ve
 
   -- no close is put as version 0
   no_first_close : (schema : Schema) (application : List ℕ) → IsCommitOf schema (close application) bytes → new.entries ≡ [] → ⊥
-  no_first_close schema application commit is = by_entry new.entry (subst (λ (es : List Entry). BeginsWithCreation (es ++ new.entry ∷ [])) is new.lawful.begins) new.commit
+  no_first_close schema application commit is = by_entry new.entry (subst (λ (es : List Entry). Begins (es ++ new.entry ∷ [])) is new.lawful.begins) new.commit
     where
-      by_entry : (entry : Entry) → BeginsWithCreation (entry ∷ []) → IsCommitOf new.schema entry bytes → ⊥
+      by_entry : (entry : Entry) → Begins (entry ∷ []) → IsCommitOf new.schema entry bytes → ⊥
       by_entry creation begins own =
           let lists = one_list bytes bytes new.schema schema creation (close application) refl own commit in
           close_no_creation new.schema application (without_commit_info commit.actions) commit.stand (subst (λ (made : List actions.Action). IsCreation new.schema (without_commit_info made)) lists own.stand)
@@ -253,8 +253,9 @@ module _ (objects : Objects) (name bytes : List ℕ) (apart : (version : ℕ) �
   held_beside schema version [] ends = (ends.0, λ fits. object_at-with_object_other objects name bytes (commit_name version) (apart version) ∙ ends.1 fits)
   held_beside schema version (entry ∷ entries) holds = (
     Stands-kept objects (with_object objects name bytes) (put_grew objects name bytes) (commit_name version) _ holds.0,
-    FilesStand-kept objects (with_object objects name bytes) (put_grew objects name bytes) schema entry holds.1,
-    held_beside schema (suc version) entries holds.2,
+    FilesStand-put objects name bytes schema entry (all_free (entry ∷ []) name) holds.1,
+    holds.2,
+    held_beside schema (suc version) entries holds.3,
   )
 
   -- and the commit of version 0
@@ -268,7 +269,7 @@ module _ (objects : Objects) (name bytes : List ℕ) (apart : (version : ℕ) �
   beside_submitted : (events : List Event) → IsSound objects → AreSubmitted events objects → AreSubmitted events (with_object objects name bytes)
   beside_submitted events sound all = λ schema entries held b has. by_entries sound.entries sound.holds sound.lawful.begins schema entries held b has
     where
-      by_entries : (own : List Entry) → Holds objects sound.schema own → BeginsWithCreation own → (schema : Schema) (entries : List Entry) → Holds (with_object objects name bytes) schema entries → (b : Batch) → Contains (batches entries) b → IsSubmitted events schema b
+      by_entries : (own : List Entry) → Holds objects sound.schema own → Begins own → (schema : Schema) (entries : List Entry) → Holds (with_object objects name bytes) schema entries → (b : Batch) → Contains (batches entries) b → IsSubmitted events schema b
       by_entries [] holds begins schema entries held b has =
           let same : [] ≡ entries = only_table (with_object objects name bytes) sound.schema schema [] entries begins (held_beside sound.schema 0 [] holds) held in
           absurd (none_in b (subst (λ (es : List Entry). Contains (batches es) b) (sym same) has))
@@ -296,7 +297,7 @@ checkpoint_no_file : (name : List ℕ) (other : ℕ) → checkpoint_version name
 checkpoint_no_file name other is application number same = let none : ◌≡◌ {A = Option ℕ} None (Some other) = sym (data_file_is_none application number) ∙ ap checkpoint_version same ∙ is in absurd cc
 
 module _ (commit_lands : (objects : Objects) (version : ℕ) (bytes : List ℕ) → IsSoundStore objects → IsAdmissible objects version bytes → IsSoundStore (with_object objects (commit_name version) bytes))
-    (file_lands : (objects : Objects) (application bytes : List ℕ) (number : ℕ) → IsSoundStore objects → IsSoundStore (with_object objects (data_file_name application number) bytes))
+    (file_lands : (objects : Objects) (application bytes : List ℕ) (number : ℕ) → IsFreeIn objects (data_file_name application number) → IsSoundStore objects → IsSoundStore (with_object objects (data_file_name application number) bytes))
     (checkpoint_lands : (objects : Objects) (name bytes : List ℕ) (version : ℕ) → checkpoint_version name ≡ Some version → IsSoundStore objects → IsSoundCheckpoint objects version bytes → IsSoundStore (with_object objects name bytes)) where
   -- A good put leaves a store of which that is so.
   pub put_lands : (events : List Event) (objects : Objects) (name bytes : List ℕ) → IsGoodStore events objects → IsGoodPut events objects name bytes → IsBytes bytes → IsGoodStore events (with_object objects name bytes)
@@ -322,7 +323,7 @@ module _ (commit_lands : (objects : Objects) (version : ℕ) (bytes : List ℕ) 
         created = beside_created objects name bytes (checkpoint_apart name version named) events good.created;
         submitted = beside_submitted objects name bytes (checkpoint_apart name version named) events good.sound.table good.submitted;
       }
-  put_lands events objects name bytes good (a_file schema table file) of_bytes = subst (λ (n : List ℕ). IsGoodStore events (with_object objects n bytes)) (sym named) behind
+  put_lands events objects name bytes good (a_file schema table file free) of_bytes = subst (λ (n : List ℕ). IsGoodStore events (with_object objects n bytes)) (sym named) behind
     where
       batch : Batch
       batch = file.2.0
@@ -331,7 +332,7 @@ module _ (commit_lands : (objects : Objects) (version : ℕ) (bytes : List ℕ) 
       named = file.2.2
 
       later : IsSoundStore (with_object objects (data_file_name batch.application batch.number) bytes)
-      later = file_lands objects batch.application bytes batch.number good.sound
+      later = file_lands objects batch.application bytes batch.number (subst (IsFreeIn objects) named free) good.sound
 
       behind : IsGoodStore events (with_object objects (data_file_name batch.application batch.number) bytes)
       behind = record {

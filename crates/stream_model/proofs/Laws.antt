@@ -10,6 +10,7 @@ use Rattle.table_model.specs.Reads.{IsPart, is_offset, position}
 use Rattle.table_model.specs.Resumed.{beginning}
 use Rattle.table_model.specs.Table.{Entry, rows}
 use Rattle.table_model.specs.declared.reading.Offset.{Offset}
+use Rattle.table_store.specs.Holds.{IsFreeIn}
 use Rattle.table_store.specs.Schema.{Schema}
 use Rattle.table_store.specs.Sound.{IsAdmissible}
 use Rattle.log_laws.specs.Sound.{IsSoundStore}
@@ -21,7 +22,7 @@ pub record AreLaws : Type 0 where
   pub empty : IsSoundStore []
   pub commit_lands : (objects : Objects) (version : ℕ) (bytes : List ℕ) → IsSoundStore objects → IsAdmissible objects version bytes → IsSoundStore (with_object objects (commit_name version) bytes)
   pub commit_stays : (objects more : Objects) (version : ℕ) (bytes : List ℕ) → HasObjectsOf objects more → IsAdmissible objects version bytes → IsAdmissible more version bytes
-  pub file_lands : (objects : Objects) (application bytes : List ℕ) (number : ℕ) → IsSoundStore objects → IsSoundStore (with_object objects (data_file_name application number) bytes)
+  pub file_lands : (objects : Objects) (application bytes : List ℕ) (number : ℕ) → IsFreeIn objects (data_file_name application number) → IsSoundStore objects → IsSoundStore (with_object objects (data_file_name application number) bytes)
   pub checkpoint_lands : (objects : Objects) (name bytes : List ℕ) (version : ℕ) → checkpoint_version name ≡ Some version → IsSoundStore objects → IsSoundCheckpoint objects version bytes → IsSoundStore (with_object objects name bytes)
   pub checkpoint_stays : (objects more : Objects) (version : ℕ) (bytes : List ℕ) → HasObjectsOf objects more → IsSoundCheckpoint objects version bytes → IsSoundCheckpoint more version bytes
   pub bears_both : (objects : Objects) (talk more : Talk) → Bears objects talk → Bears objects more → Bears objects (talk ++ more)

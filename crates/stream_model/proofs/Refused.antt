@@ -4,7 +4,7 @@ use Rattle.std.specs.Prelude.{Err, codes}
 use Rattle.delta_actions.specs.Action.{Action}
 use Rattle.delta_replay.specs.Support.{Unsupported, checkpointable, fault_of, has_key_inside}
 use Rattle.table_log.specs.Counts.{commit_count, count_in}
-use Rattle.table_model.specs.Lawful.{BeginsWithCreation}
+use Rattle.table_model.specs.Lawful.{Begins}
 use Rattle.table_model.specs.Table.{Entry, close, creation, group}
 use Rattle.table_store.specs.Holds.{Holds}
 use Rattle.table_store.specs.Schema.{Schema}
@@ -96,7 +96,7 @@ module _ (laws : AreLaws) (events : List Event) (outs : List (Job × Outcome)) (
         by_key true key rest made = key
         by_key false key rest made = let told = sym (log_checkpointable w.objects schema rest log made) ∙ refused in let plain = rw key at told in absurd cc
 
-        by_firsts : (firsts : List Entry) → AreMadeFor w.objects schema firsts log → BeginsWithCreation firsts → length firsts ≡ next_version actor.talk → has_key_inside (codes "delta.invariants") schema ≡ true
+        by_firsts : (firsts : List Entry) → AreMadeFor w.objects schema firsts log → Begins firsts → length firsts ≡ next_version actor.talk → has_key_inside (codes "delta.invariants") schema ≡ true
         by_firsts [] made begins long = absurd (omega (arith, long, stand.0))
         by_firsts (creation ∷ rest) made begins long = by_key (has_key_inside (codes "delta.invariants") schema) refl rest made
         by_firsts (group bs ∷ rest) made begins long = absurd begins

@@ -1,12 +1,14 @@
 -- Whatever happens, it is so of each world; and what follows of it for a table that a store holds.
 use Rattle.std.proofs.Common.{refl, Contains, List, Option, Some, None, [], append-nil, append_assoc, subst, suc, sym, zero, ℕ, ◌++◌, ◌∷◌, ◌≡◌}
+use Rattle.std.specs.List.{flat_map}
 use Rattle.std.specs.Prelude.{Ok, slice_get}
 use Rattle.std.proofs.lemmas.List.Elements.{Contains-append_left, Contains-append_right, Contains-push}
 use Rattle.schema_tree.specs.Reading.{schema_of}
 use Rattle.store_core.specs.Objects.{HasObjectsOf, Objects}
 use Rattle.session_core.specs.Talks.{Asked, get_object, list_names, put_commit, put_file}
 use Rattle.store_core.specs.Names.{commit_name}
-use Rattle.table_model.specs.Table.{Batch, Entry, batches, batches_of}
+use Rattle.table_model.specs.Table.{Batch, Told, Entry, batches, tells, told_of}
+use Rattle.table_model.proofs.Callers.{batch_of_told}
 use Rattle.table_store.specs.Holds.{Holds}
 use Rattle.table_store.specs.Schema.{Schema}
 use Rattle.table_store.proofs.HoldingSchema.{one_creation_of}
@@ -17,7 +19,7 @@ use Rattle.session_laws.specs.Jobs.{Job, Outcome, CanBegin}
 use Rattle.session_laws.proofs.Callers.{creation_commit}
 use Rattle.stream_model.specs.Events.{Event, Happens, IsWorldOf, Ran, acts, at_first, begin, begins, die, dies, ends, goes_on, lands, nothing_happens, then_one, with_told}
 use Rattle.stream_model.specs.Headline.{Acknowledges, IsHeadline, IsSoOf, already, committed}
-use Rattle.stream_model.specs.Worlds.{How, World, empty_world, fresh, late, left_by_call, left_how, lost, once, short, twice}
+use Rattle.stream_model.specs.Worlds.{How, IsFirstStore, World, first_world, fresh, late, left_by_call, left_how, lost, once, short, twice}
 use Rattle.stream_model.proofs.Calls.{got_one}
 use Rattle.stream_model.proofs.Good.{IsGoodWorld, world_more}
 use Rattle.stream_model.proofs.Growing.{lawful_held}
@@ -39,7 +41,7 @@ no_batch schema [] holds b has = none_in b has
 no_batch schema (entry ∷ entries) holds b has = let none = holds.0.1 in absurd cc
 
 -- in the world of nothing, nothing is amiss
-empty_good : AreLaws → IsGoodWorld [] [] empty_world
+empty_good : AreLaws → IsGoodWorld [] [] (first_world [])
 empty_good laws = record {
   store = record {
     sound = laws.empty;
@@ -54,6 +56,10 @@ empty_good laws = record {
   handed = λ job end has. absurd (none_in _ has);
   parts = λ job end has. absurd (none_in _ has);
 }
+
+-- so it is in a first one
+first_good : AreLaws → (first : Objects) → IsFirstStore first → IsGoodWorld [] [] (first_world first)
+first_good laws first is = subst (λ (objects : Objects). IsGoodWorld [] [] (first_world objects)) (sym is) (empty_good laws)
 
 module _ (laws : AreLaws) where
   -- one event
@@ -81,9 +87,12 @@ module _ (laws : AreLaws) where
       by_case event told later (nothing_happens made unfit) more = more
 
   -- all events
+  ran_good : (first : Objects) → IsFirstStore first → (events : List Event) (outs : List (Job × Outcome)) (w : World) → Ran (first_world first) events outs w → IsGoodWorld events outs w
+  ran_good first is events outs w at_first = first_good laws first is
+  ran_good first is events outs w (then_one before earlier old event told now ran happens) = world_happens before earlier old event told now (ran_good first is before earlier old ran) happens
+
   pub world_ran : (events : List Event) (outs : List (Job × Outcome)) (w : World) → IsWorldOf events outs w → IsGoodWorld events outs w
-  world_ran events outs w at_first = empty_good laws
-  world_ran events outs w (then_one before earlier old event told now ran happens) = world_happens before earlier old event told now (world_ran before earlier old ran) happens
+  world_ran events outs w of = ran_good of.0 of.1 events outs w of.2
 
 -- ---- later worlds
 
@@ -115,12 +124,12 @@ pub ran_grew : (w : World) (events : List Event) (outs : List (Job × Outcome)) 
 ran_grew w events outs later at_first = λ name bytes stands. stands
 ran_grew w events outs later (then_one before earlier old event told now ran happens) = λ name bytes stands. event_grew old event told now happens name bytes (ran_grew w before earlier old ran name bytes stands)
 
--- a later world is one of all events
-pub later_world : (events : List Event) (outs : List (Job × Outcome)) (w : World) → IsWorldOf events outs w → (more : List Event) (told : List (Job × Outcome)) (later : World) → Ran w more told later → IsWorldOf (events ++ more) (outs ++ told) later
-later_world events outs w of more told later at_first = subst (λ (es : List Event). IsWorldOf es (outs ++ []) w) (sym (append-nil events)) (subst (λ (os : List (Job × Outcome)). IsWorldOf events os w) (sym (append-nil outs)) of)
-later_world events outs w of more told later (then_one before earlier old event one now ran happens) =
-    subst (λ (es : List Event). IsWorldOf es (outs ++ with_told earlier one) now) (append_assoc events before (event ∷ []))
-    (subst (λ (os : List (Job × Outcome)). IsWorldOf ((events ++ before) ++ event ∷ []) os now) (told_behind one) (then_one (events ++ before) (outs ++ earlier) old event one now (later_world events outs w of before earlier old ran) happens))
+-- events behind others are all of them
+ran_on : (first : World) (events : List Event) (outs : List (Job × Outcome)) (w : World) → Ran first events outs w → (more : List Event) (told : List (Job × Outcome)) (later : World) → Ran w more told later → Ran first (events ++ more) (outs ++ told) later
+ran_on first events outs w of more told later at_first = subst (λ (es : List Event). Ran first es (outs ++ []) w) (sym (append-nil events)) (subst (λ (os : List (Job × Outcome)). Ran first events os w) (sym (append-nil outs)) of)
+ran_on first events outs w of more told later (then_one before earlier old event one now ran happens) =
+    subst (λ (es : List Event). Ran first es (outs ++ with_told earlier one) now) (append_assoc events before (event ∷ []))
+    (subst (λ (os : List (Job × Outcome)). Ran first ((events ++ before) ++ event ∷ []) os now) (told_behind one) (then_one (events ++ before) (outs ++ earlier) old event one now (ran_on first events outs w of before earlier old ran) happens))
   where
     told_behind : (one : Option (Job × Outcome)) → with_told (outs ++ earlier) one ≡ outs ++ with_told earlier one
     told_behind None = refl
@@ -128,18 +137,18 @@ later_world events outs w of more told later (then_one before earlier old event 
 
 -- ---- the headline
 
--- a batch of an entry stands in the table
-batch_at : (entries : List Entry) (version : ℕ) (entry : Entry) (b : Batch) → slice_get entries version ≡ Some entry → Contains (batches_of entry) b → Contains (batches entries) b
-batch_at [] version entry b is has = absurd cc
-batch_at (first ∷ entries) zero entry b is has =
+-- what an entry tells is told in the table
+told_at : (entries : List Entry) (version : ℕ) (entry : Entry) (t : Told) → slice_get entries version ≡ Some entry → Contains (tells entry) t → Contains (flat_map tells entries) t
+told_at [] version entry t is has = absurd cc
+told_at (first ∷ entries) zero entry t is has =
     let same : first ≡ entry = cc in
-    Contains-append_left (batches_of first) (batches entries) b (subst (λ (e : Entry). Contains (batches_of e) b) (sym same) has)
-batch_at (first ∷ entries) (suc version) entry b is has = Contains-append_right (batches_of first) (batches entries) b (batch_at entries version entry b is has)
+    Contains-append_left (tells first) (flat_map tells entries) t (subst (λ (e : Entry). Contains (tells e) t) (sym same) has)
+told_at (first ∷ entries) (suc version) entry t is has = Contains-append_right (tells first) (flat_map tells entries) t (told_at entries version entry t is has)
 
 -- a batch that was acknowledged stands
 acknowledged_stands : (schema : Schema) (entries : List Entry) (job : SinkJob) (end : SinkEnd) → IsSoOf schema entries job end.answer → Acknowledges end → (b : Batch) × IsBatchOf schema job b × Contains (batches entries) b
-acknowledged_stands schema entries job end so (committed version is) = let told = subst (IsSoOf schema entries job) is so in (told.0, told.1, batch_at entries version told.2.0 told.0 told.2.1 told.2.2)
-acknowledged_stands schema entries job end so (already number is) = let told = subst (IsSoOf schema entries job) is so in (told.0, told.1, told.2.1)
+acknowledged_stands schema entries job end so (committed version is) = let told = subst (IsSoOf schema entries job) is so in (told.0, told.1, batch_of_told entries told.0 (told_at entries version told.2.0 (told_of told.0) told.2.1 told.2.2))
+acknowledged_stands schema entries job end so (already number is) = let told = subst (IsSoOf schema entries job) is so in (told.0, told.1, batch_of_told entries told.0 told.2.1)
 
 -- the table was created as a job asked that was handed in
 was_created : (events : List Event) (objects : Objects) → IsBegunAsAsked events objects → (schema : Schema) (entries : List Entry) → Holds objects schema entries → WasCreated events schema entries
@@ -161,3 +170,7 @@ headline_of laws events outs w good schema entries holds = record {
   parts = λ job end has. good.parts job end has schema entries holds;
   handed = hands_out laws outs schema entries (λ job end has. good.parts job end has schema entries holds);
 }
+
+-- So a later world is one of all events.
+pub later_world : (events : List Event) (outs : List (Job × Outcome)) (w : World) → IsWorldOf events outs w → (more : List Event) (told : List (Job × Outcome)) (later : World) → Ran w more told later → IsWorldOf (events ++ more) (outs ++ told) later
+later_world events outs w of more told later ran = (of.0, of.1, ran_on (first_world of.0) events outs w of.2 more told later ran)

@@ -7,7 +7,7 @@ use Rattle.session_core.specs.Talks.{Asked, Bears, Talk, Told, get_object, list_
 use Rattle.store_core.specs.Names.{commit_name}
 use Rattle.table_log.specs.Counts.{commit_count}
 use Rattle.table_log.specs.Versions.{Version, commit}
-use Rattle.table_model.specs.Lawful.{BeginsWithCreation}
+use Rattle.table_model.specs.Lawful.{Begins}
 use Rattle.table_model.specs.Table.{Entry}
 use Rattle.table_store.specs.Schema.{Schema, IsFileOf}
 use Rattle.table_store.specs.Sound.{IsSound}
@@ -73,7 +73,7 @@ module _ (events : List Event) (objects : Objects) (good : IsGoodStore events ob
       let file = good.files b.application b.number bytes stands in
       let table = file.1 in
       let made = file.2.2 in
-      let begins : BeginsWithCreation (table.0 ∷ table.1) = (lawful_held objects file.0 (table.0 ∷ table.1) good.sound.table table.2).begins in
+      let begins : Begins (table.0 ∷ table.1) = (lawful_held objects file.0 (table.0 ∷ table.1) good.sound.table table.2).begins in
       let schemas : file.0 ≡ schema = one_schema objects file.0 schema table.0 table.1 entries begins table.2 holds in
       let own = batch_file objects schema 0 entries b (held_first objects schema 0 entries holds) has in
       let bytes_are : own.0 ≡ bytes = same_bytes own.0 bytes (sym own.1 ∙ stands) in

@@ -1,11 +1,11 @@
--- What may happen in a world: one event after the other, from a world in which nothing stands.
+-- What may happen in a world: one event after the other, from a first one.
 use Rattle.std.specs.Prelude.{◌≡◌, ◌⊎◌, ℕ, List, [], ◌∷◌, ◌++◌, Option, None, Some, slice_get}
 use Rattle.outcomes.specs.Bytes.{IsBytes}
-use Rattle.store_core.specs.Objects.{with_object}
+use Rattle.store_core.specs.Objects.{Objects, with_object}
 use Rattle.session_core.specs.Talks.{Asked, Bears, Talk, Told, put_commit, put_file, told_lost}
 use Rattle.session_laws.specs.Jobs.{CanBegin, Job, Outcome}
 use Rattle.session_laws.specs.Moves.{Does, asks, tells}
-use Rattle.stream_model.specs.Worlds.{Actor, How, IsBegunAs, World, acted, asking, empty_world, ended, fresh, waiting, with_actor}
+use Rattle.stream_model.specs.Worlds.{Actor, How, IsBegunAs, World, IsFirstStore, acted, asking, ended, first_world, fresh, waiting, with_actor}
 
 -- An actor begins a session, dropping an older one, or dies; its call is answered in some way; its session goes on: it makes its first step,
 -- or takes the answer that waits, or is told in place of it that the call was lost; or a put in flight takes effect, and stays in flight.
@@ -68,6 +68,6 @@ pub data Ran (first : World) : List Event → List (Job × Outcome) → World �
   then_one : (events : List Event) (outs : List (Job × Outcome)) (w : World) (event : Event) (told : Option (Job × Outcome)) (later : World) → Ran first events outs w → Happens w event told later
       → Ran first (events ++ event ∷ []) (with_told outs told) later
 
--- a world that came by these events from the one in which nothing stands
+-- a world that came by these events from a first one
 abbrev pub IsWorldOf : List Event → List (Job × Outcome) → World → Type 0
-IsWorldOf events outs w = Ran empty_world events outs w
+IsWorldOf events outs w = (first : Objects) × IsFirstStore first × Ran (first_world first) events outs w

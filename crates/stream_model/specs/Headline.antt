@@ -123,7 +123,7 @@ pub record HandsOutTheLog (outs : List (Job × Outcome)) (entries : List Entry) 
   pub from_offset : (offset : Offset) (those : List (SourceJob × ReadEnd)) → is_offset offset entries ≡ true → Resume outs offset those → IsPart (most_rows those) offset (all_rows_handed those) (last_offset offset those) entries
 
 -- Of the table that a store holds: it was created as a job asked that was handed in; each batch stands once, each application's numbers rise,
--- and none of it stands with or behind its close; each batch that was acknowledged was handed in, and stands; each batch that stands was
+-- and none of it stands behind its close; each batch that was acknowledged was handed in, and stands; each batch that stands was
 -- handed in, with these rows; what a stream was told of its batch or its close is so, of the outcomes that `IsSoOf` speaks of; each read that
 -- wasn't refused handed out a part of the table with its schema, and readers that resume at their last offset its rows up to there.
 pub record IsHeadline (events : List Event) (outs : List (Job × Outcome)) (schema : Schema) (entries : List Entry) : Type 0 where

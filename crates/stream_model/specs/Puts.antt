@@ -6,7 +6,7 @@ use Rattle.store_core.specs.Names.{commit_name}
 use Rattle.table_log.specs.Restoring.{IsSoundCheckpoint, checkpoint_version}
 use Rattle.table_model.specs.Table.{Batch, Entry, close, group}
 use Rattle.table_store.specs.Commits.{IsCommitOf}
-use Rattle.table_store.specs.Holds.{FileStands, Holds}
+use Rattle.table_store.specs.Holds.{FileStands, Holds, IsFreeIn}
 use Rattle.table_store.specs.Schema.{Schema}
 use Rattle.table_store.specs.Sound.{IsAdmissible}
 use Rattle.sink_core.specs.SinkSessions as tasks
@@ -46,8 +46,8 @@ pub data IsCommitMade (events : List Event) (objects : Objects) (version : ℕ) 
   closes : (schema : Schema) (job : SinkJob) → Submitted events job → job.task ≡ tasks.closes → IsCommitOf schema (close job.application) bytes → IsCommitMade events objects version bytes
 
 -- A put is good: an admissible commit of a job's creation, of a batch that was handed in or of a job's close (not told to the byte but for a
--- creation); a sound checkpoint; or a file of a batch that was handed in.
+-- creation); a sound checkpoint; or a file of a batch that was handed in, under a name that no entry lacks.
 pub data IsGoodPut (events : List Event) (objects : Objects) (name bytes : List ℕ) : Type 0 where
   a_commit : (version : ℕ) → name ≡ commit_name version → IsAdmissible objects version bytes → IsCommitMade events objects version bytes → IsGoodPut events objects name bytes
   a_checkpoint : (version : ℕ) → checkpoint_version name ≡ Some version → IsSoundCheckpoint objects version bytes → IsGoodPut events objects name bytes
-  a_file : (schema : Schema) → HasTable objects schema → IsSubmittedFile events schema name bytes → IsGoodPut events objects name bytes
+  a_file : (schema : Schema) → HasTable objects schema → IsSubmittedFile events schema name bytes → IsFreeIn objects name → IsGoodPut events objects name bytes

@@ -38,9 +38,13 @@ pub record World : Type 0 where
   pub flight : Flight
   pub actors : ℕ → Option Actor
 
--- the world in which nothing stands, nothing is in flight, and nobody acts
-abbrev pub empty_world : World
-empty_world = record { objects = []; flight = []; actors = λ name. None }
+-- what may stand where a world begins: nothing yet
+abbrev pub IsFirstStore : Objects → Type 0
+IsFirstStore objects = objects ≡ []
+
+-- the world in which these objects stand, nothing is in flight, and nobody acts
+abbrev pub first_world : Objects → World
+first_world objects = record { objects = objects; flight = []; actors = λ name. None }
 
 -- what stands bears the answer that waits
 abbrev pub BearsHand : Objects → Hand → Type 0

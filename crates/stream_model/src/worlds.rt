@@ -37,7 +37,7 @@ use table_model::{a_part_from_the_beginning_is_a_front, parts_that_follow_are_on
 /// - each data file has the rows of a batch of its name that was handed in, for the table that stands (`files`);
 /// - of the table that the store holds (by `sound` there is one, without versions until a creation takes effect): where
 ///   it has a version, its schema is what the text of a creation that was handed in is read as; each batch stands once,
-///   each application's in rising number, and none with or behind its close; each batch that was acknowledged was handed
+///   each application's in rising number, and none behind its close; each batch that was acknowledged was handed
 ///   in, and stands; each that stands was handed in, with these rows; and where an append told that its batch was put as
 ///   a version, stands already, is below a number that stands (S1) or comes behind the close of its stream (S2), or a
 ///   close that it was put as a version or its stream was closed already, that is so; each read that wasn't refused

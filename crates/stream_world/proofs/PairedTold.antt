@@ -20,11 +20,11 @@ use Rattle.table_jobs.specs.declared.job_session.JobEnd as code_end
 use Rattle.stream_model.specs.Events.{ComesToTalk, Event, FitsWorld, Happens, IsWorldOf, act, acts, answer, begin, begins, begins_now, die, dies, ends, goes_on, land, lands, lose_answer, loses, nothing_happens, takes, with_told}
 use Rattle.stream_model.specs.Headline.{IsHeadline}
 use Rattle.stream_model.specs.Puts.{WasBegun, WasCreated}
-use Rattle.stream_model.specs.Worlds.{Actor, IsBegunAs, World, asking, ended, fresh, with_actor}
+use Rattle.stream_model.specs.Worlds.{Actor, IsBegunAs, IsFirstStore, World, asking, ended, first_world, fresh, with_actor}
 use Rattle.stream_world.specs.EventViews.{IsMetAs, event_view}
 use Rattle.stream_world.specs.Paired.{AreOwned, IsOfKind, IsOwned, job_begun, job_going_on, out_of, outs_told}
 use Rattle.stream_world.specs.Running.{AreEventsSo, AreRun, HasRun, at_first, then_one}
-use Rattle.stream_world.specs.Standing.{TellsAs, quiet_world}
+use Rattle.stream_world.specs.Standing.{TellsAs}
 use Rattle.stream_world.specs.declared.event.Event as code_event
 use Rattle.stream_world.specs.declared.event.Event.TheVariants as code_events
 use Rattle.stream_world.specs.declared.world.World as code_world
@@ -312,7 +312,7 @@ record IsPaired (seen : List code_event.Event) (told : List (Option code_end.Job
   owned : AreOwned [] (map event_view seen) (map (option_map end_view) told)
 
 paired_so : (first : Objects) (seen : List code_event.Event) (told : List (Option code_end.JobEnd)) (met : List Event) (outs : List (Job × Outcome)) (was_short : Bool) (w : World)
-    → AreRun (quiet_world first) seen told met outs was_short w → IsPaired seen told met outs w
+    → AreRun (first_world first) seen told met outs was_short w → IsPaired seen told met outs w
 paired_so first _ _ _ _ _ _ at_first = record { counts = refl; begun = λ name actor is. absurd cc; alike = λ name. refl; paired = refl; owned = tt }
 paired_so first _ _ _ _ _ _ (then_one seen told met outs was w event next one out later run is fits tells happens begins_so) =
     let so = paired_so first seen told met outs was w run in
@@ -385,29 +385,26 @@ headline_of_more met events outs schema entries handed headline = record {
     created_by [] created = tt
     created_by (first ∷ rest) (job, begun, reads_as) = (job, handed (creates job) begun, reads_as)
 
-module _ {S : Type 0} (objects : S → Objects) (first : Objects) (seen : List code_event.Event) (told : List (Option code_end.JobEnd)) (world : code_world.World S) (was : HasRun objects first seen told world) (nothing : first ≡ []) where
-  from_nothing : HasRun objects [] seen told world
-  from_nothing = subst (λ (o : Objects). HasRun objects o seen told world) nothing was
+module _ {S : Type 0} (objects : S → Objects) (first : Objects) (seen : List code_event.Event) (told : List (Option code_end.JobEnd)) (world : code_world.World S) (was : HasRun objects first seen told world) (may : IsFirstStore first) where
+  of_world : IsWorldOf was.met was.outs was.w
+  of_world = (first, may, ran_so (first_world first) seen told was.met was.outs world.is_short was.w was.ran)
 
-  of_world : IsWorldOf from_nothing.met from_nothing.outs from_nothing.w
-  of_world = ran_so (quiet_world []) seen told from_nothing.met from_nothing.outs world.is_short from_nothing.w from_nothing.ran
+  was_begun : (job : Job) → WasBegun was.met job → WasBegun (map event_view seen) job
+  was_begun job (can, name, has) = (can, name, handed_in (first_world first) seen told was.met was.outs world.is_short was.w was.ran name job has)
 
-  was_begun : (job : Job) → WasBegun from_nothing.met job → WasBegun (map event_view seen) job
-  was_begun job (can, name, has) = (can, name, handed_in (quiet_world []) seen told from_nothing.met from_nothing.outs world.is_short from_nothing.w from_nothing.ran name job has)
-
-  -- The store that events over nothing left is sound, as it is in every world.
+  -- The store that events over a first one left is sound, as it is in every world.
   pub sound_so : ((met : List Event) (outs : List (Job × Outcome)) (w : World) → IsWorldOf met outs w → IsSoundStore w.objects) → IsSoundStore (objects world.store.store)
-  sound_so sound = subst IsSoundStore from_nothing.stands.objects (sound from_nothing.met from_nothing.outs from_nothing.w of_world)
+  sound_so sound = subst IsSoundStore was.stands.objects (sound was.met was.outs was.w of_world)
 
   -- What was told by them is so of the table that it holds.
   pub told_so : ((met : List Event) (outs : List (Job × Outcome)) (w : World) → IsWorldOf met outs w → (schema : Schema) (entries : List Entry) → Holds w.objects schema entries → IsHeadline met outs schema entries)
       → AreEventsSo (map event_view seen) (map (option_map end_view) told) (objects world.store.store)
   told_so headline =
-      let so = paired_so [] seen told from_nothing.met from_nothing.outs world.is_short from_nothing.w from_nothing.ran in
+      let so = paired_so first seen told was.met was.outs world.is_short was.w was.ran in
       record {
         owned = so.owned;
         headline = λ schema entries holds.
-            headline_of_more from_nothing.met (map event_view seen) _ schema entries was_begun
-            (subst (λ (os : List (Job × Outcome)). IsHeadline from_nothing.met os schema entries) so.paired
-            (headline from_nothing.met from_nothing.outs from_nothing.w of_world schema entries (subst (λ (o : Objects). Holds o schema entries) (sym from_nothing.stands.objects) holds)));
+            headline_of_more was.met (map event_view seen) _ schema entries was_begun
+            (subst (λ (os : List (Job × Outcome)). IsHeadline was.met os schema entries) so.paired
+            (headline was.met was.outs was.w of_world schema entries (subst (λ (o : Objects). Holds o schema entries) (sym was.stands.objects) holds)));
       }

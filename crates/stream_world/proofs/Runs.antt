@@ -5,10 +5,10 @@ use Rattle.store_core.specs.Objects.{Objects}
 use Rattle.table_jobs.specs.Jobs.{Job, Outcome}
 use Rattle.stream_model.specs.Events.{Event, IsWorldOf, Ran, act, answer, begin, die, land, lose_answer}
 use Rattle.stream_model.specs.Events as events
-use Rattle.stream_model.specs.Worlds.{How, World, late, lost, once, short, twice}
+use Rattle.stream_model.specs.Worlds.{How, World, first_world, late, lost, once, short, twice}
 use Rattle.stream_world.specs.EventViews.{IsMetAs, IsMetIn, event_view, ran_out, ran_out_of}
 use Rattle.stream_world.specs.Running.{AreRun, HasRun, at_first, then_one}
-use Rattle.stream_world.specs.Standing.{HasHappened, WorldStands, quiet_world, told_wants}
+use Rattle.stream_world.specs.Standing.{HasHappened, WorldStands, told_wants}
 use Rattle.stream_world.specs.declared.event.Event as code_event
 use Rattle.table_jobs.specs.declared.job_session.JobEnd as code_end
 use Rattle.stream_world.specs.declared.world.World as code_world
@@ -57,9 +57,9 @@ exact_so first _ _ _ _ _ _ (then_one seen told met outs was w event next one out
 -- ---- one by one
 
 -- no event has happened yet
-pub run_none : {S : Type 0} (objects : S → Objects) (first : Objects) (world : code_world.World S) → WorldStands objects world (quiet_world first) → world.is_short ≡ false → HasRun objects first [] [] world
+pub run_none : {S : Type 0} (objects : S → Objects) (first : Objects) (world : code_world.World S) → WorldStands objects world (first_world first) → world.is_short ≡ false → HasRun objects first [] [] world
 run_none objects first world stands unshort =
-    record { met = []; outs = []; w = quiet_world first; ran = subst (λ (b : Bool). AreRun (quiet_world first) [] [] [] [] b (quiet_world first)) (sym unshort) at_first; stands = stands; exact = λ none. refl }
+    record { met = []; outs = []; w = first_world first; ran = subst (λ (b : Bool). AreRun (first_world first) [] [] [] [] b (first_world first)) (sym unshort) at_first; stands = stands; exact = λ none. refl }
 
 -- one more event has happened
 pub run_more : {S : Type 0} (objects : S → Objects) (first : Objects) (seen : List code_event.Event) (event : code_event.Event) (told : List (Option code_end.JobEnd)) (next : Option code_end.JobEnd) (world later : code_world.World S)
@@ -68,8 +68,8 @@ run_more objects first seen event told next world later run happens =
     let one = happens run.w run.stands in
     let met : List Event = run.met ++ one.met ∷ [] in
     let outs : List (Job × Outcome) = events.with_told run.outs one.told in
-    let ran : AreRun (quiet_world first) (seen ++ event ∷ []) (told ++ next ∷ []) met outs later.is_short one.later =
-    subst (λ (b : Bool). AreRun (quiet_world first) (seen ++ event ∷ []) (told ++ next ∷ []) met outs b one.later) (sym one.short)
+    let ran : AreRun (first_world first) (seen ++ event ∷ []) (told ++ next ∷ []) met outs later.is_short one.later =
+    subst (λ (b : Bool). AreRun (first_world first) (seen ++ event ∷ []) (told ++ next ∷ []) met outs b one.later) (sym one.short)
     (then_one seen told run.met run.outs world.is_short run.w event next one.met one.told one.later run.ran one.is one.fits one.tells one.happens one.begins) in
     record {
       met = met;
@@ -77,5 +77,5 @@ run_more objects first seen event told next world later run happens =
       w = one.later;
       ran = ran;
       stands = one.stands;
-      exact = exact_so (quiet_world first) (seen ++ event ∷ []) (told ++ next ∷ []) met outs later.is_short one.later ran;
+      exact = exact_so (first_world first) (seen ++ event ∷ []) (told ++ next ∷ []) met outs later.is_short one.later ran;
     }

@@ -7,10 +7,10 @@ use Rattle.stream_model.specs.TableSchema.{Schema}
 use Rattle.table_jobs.specs.Jobs.{Job, Outcome}
 use Rattle.stream_model.specs.Events.{Event, FitsWorld, Happens, with_told}
 use Rattle.stream_model.specs.Headline.{IsHeadline}
-use Rattle.stream_model.specs.Worlds.{World}
+use Rattle.stream_model.specs.Worlds.{World, first_world}
 use Rattle.stream_world.specs.EventViews.{IsMetAs, event_view, ran_out}
 use Rattle.stream_world.specs.Paired.{AreOwned, outs_told}
-use Rattle.stream_world.specs.Standing.{BeginsAnew, TellsAs, WorldStands, quiet_world, told_wants}
+use Rattle.stream_world.specs.Standing.{BeginsAnew, TellsAs, WorldStands, told_wants}
 use Rattle.stream_world.specs.declared.event.Event as code_event
 use Rattle.table_jobs.specs.declared.job_session.JobEnd as code_end
 use Rattle.stream_world.specs.declared.world.World as code_world
@@ -30,7 +30,7 @@ pub record HasRun {S : Type 0} (objects : S → Objects) (first : Objects) (even
   pub met : List Event
   pub outs : List (Job × Outcome)
   pub w : World
-  pub ran : AreRun (quiet_world first) events told met outs world.is_short w
+  pub ran : AreRun (first_world first) events told met outs world.is_short w
   pub stands : WorldStands objects world w
   pub exact : world.is_short ≡ false → met ≡ map event_view events
 

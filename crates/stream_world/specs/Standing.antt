@@ -72,10 +72,6 @@ pub record WorldStands {S : Type 0} (stored : S → Objects) (world : code_world
   pub borne : BearsActors w
   pub known : IsFront (stored world.store.store) world.known
 
--- the world in which nobody acts and nothing is in flight
-abbrev pub quiet_world : Objects → World
-quiet_world objects = record { objects = objects; flight = []; actors = λ name. None }
-
 -- ---- what happened
 
 -- what is told, with the job of the session that told it

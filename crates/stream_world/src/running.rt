@@ -1,7 +1,8 @@
 //! Lists of events, and what was told by them.
 
-ghost use Rattle.std.specs.Prelude.{◌≡◌, [], IfOk, length, map, option_map};
+ghost use Rattle.std.specs.Prelude.{◌≡◌, IfOk, length, map, option_map};
 ghost use Rattle.stream_model.specs.SoundStores.{IsSoundStore};
+ghost use Rattle.stream_model.specs.Worlds.{IsFirstStore};
 ghost use Rattle.stream_world.specs.EventViews.{event_view};
 ghost use Rattle.stream_world.specs.Running.{AreEventsSo, HasRun};
 ghost use Rattle.table_jobs.specs.Sessions.{end_view};
@@ -46,8 +47,8 @@ pub fn run<S: Store + Drop>(
 ) -> Result<Ran<S>, AllocError>
     ensures each { IfOk result (λ ran. length ran.told.items ≡ length events.items) }
     ensures happens { S.is_reliable store → IfOk result (λ ran. HasRun S.objects (S.objects store) events.items ran.told.items ran.world) }
-    ensures sound { S.is_reliable store → S.objects store ≡ [] → IfOk result (λ ran. IsSoundStore (S.objects ran.world.store.store)) }
-    ensures headline { S.is_reliable store → S.objects store ≡ [] → IfOk result (λ ran. AreEventsSo (map event_view events.items) (map (option_map end_view) ran.told.items) (S.objects ran.world.store.store)) }
+    ensures sound { S.is_reliable store → IsFirstStore (S.objects store) → IfOk result (λ ran. IsSoundStore (S.objects ran.world.store.store)) }
+    ensures headline { S.is_reliable store → IsFirstStore (S.objects store) → IfOk result (λ ran. AreEventsSo (map event_view events.items) (map (option_map end_view) ran.told.items) (S.objects ran.world.store.store)) }
 {
     every_world();
     let mut world = World::new(alloc, store);

@@ -67,13 +67,13 @@ impl<S: Store> World<S> {
     ghost use Rattle.table_jobs.specs.Views.{job_view, with_known};
     ghost use Rattle.stream_world.specs.Left.{asks_call, calls_left, takes_step};
     ghost use Rattle.stream_world.specs.OverAnyStore.{AsksStore, WorldMeets};
-    ghost use Rattle.stream_model.specs.Worlds.{IsBegunAs};
-    ghost use Rattle.stream_world.specs.Standing.{BeginsAs, BeginsKnowing, HasHappened, LandsAs, PlacesAs, SlotDoes, StepsTo, WorldStands, quiet_world, slot_at, taking};
+    ghost use Rattle.stream_model.specs.Worlds.{IsBegunAs, first_world};
+    ghost use Rattle.stream_world.specs.Standing.{BeginsAs, BeginsKnowing, HasHappened, LandsAs, PlacesAs, SlotDoes, StepsTo, WorldStands, slot_at, taking};
 
     /// A world over a store, in which nobody acts yet and no put was sent.
     pub fn new(alloc: Global, store: S) -> World<S>
         ensures store { result.store.store ≡ store }
-        ensures stands { WorldStands S.objects result (quiet_world (S.objects store)) }
+        ensures stands { WorldStands S.objects result (first_world (S.objects store)) }
         ensures quiet { (turns_left result.store ≡ []) × (result.store.armed ≡ None) }
         ensures unshort { result.is_short ≡ false }
     {

@@ -14,6 +14,7 @@ use Rattle.table_store.specs.Commits.{IsClose, StandFor}
 use Rattle.table_store.specs.Groups.{AreFilesOf, AreTxnsAndAdds, added, numbers}
 use Rattle.table_store.specs.Holds.{FileStands, FilesStand}
 use Rattle.table_store.specs.Schema.{Schema}
+use Rattle.table_store.proofs.Callers.{files_stand, given_batches}
 use Rattle.table_audit.specs.Entries.{Follows, GroupFollows, HasFile, HaveFiles}
 
 -- the application and the number of a `txn`
@@ -83,14 +84,14 @@ module _ (objects : Objects) (schema : Schema) where
     -- ---- entries
 
     pub follows_group : GroupFollows objects schema log beside → Follows objects schema log beside
-    follows_group g = record { entry = group g.bs; stand = g.stand; files = g.files; may = g.new }
+    follows_group g = record { entry = group g.bs; stand = g.stand; files = files_stand objects schema (group g.bs) g.files; may = g.new }
 
     pub follows_close : (application : List ℕ) → IsClose application beside → Follows objects schema log beside
-    follows_close application is = record { entry = close application; stand = is; files = tt; may = tt }
+    follows_close application is = record { entry = close application; stand = is; files = files_stand objects schema (close application) tt; may = tt }
 
     by_entry : (entry : Entry) → StandFor schema entry beside → FilesStand objects schema entry → MayFollow log entry → ((application : List ℕ) → IsClose application beside → ⊥) → (GroupFollows objects schema log beside → ⊥) → ⊥
     by_entry creation stand files may no_close no_group = may
-    by_entry (group bs) stand files may no_close no_group = no_group (record { bs = bs; stand = stand; files = files; new = may })
+    by_entry (group bs) stand files may no_close no_group = no_group (record { bs = bs; stand = stand; files = given_batches objects schema bs files.given; new = may })
     by_entry (close application) stand files may no_close no_group = no_close application stand
 
     pub follows_none : ((application : List ℕ) → IsClose application beside → ⊥) → (GroupFollows objects schema log beside → ⊥) → Follows objects schema log beside → ⊥

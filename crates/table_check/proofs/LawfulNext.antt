@@ -1,17 +1,14 @@
 -- Which entries may stand behind those of a lawful table.
-use Rattle.std.proofs.Common.{◌≡◌, ℕ, zero, suc, ◌<◌, true, false, List, [], ◌∷◌, ◌++◌, length, get_or, map, Contains, refl, sym, ap, subst, ◌∙◌, append_assoc, arith, inl, inr, ◌⊎◌, Option, Some, None}
+use Rattle.std.proofs.Common.{◌≡◌, ℕ, zero, suc, ◌<◌, true, false, List, [], ◌∷◌, ◌++◌, length, get_or, map, Contains, refl, sym, ap, subst, ◌∙◌, arith, inl, inr, ◌⊎◌, Option, Some, None}
 use Rattle.std.specs.Prelude.{bytes_eq, filter}
 use Rattle.std.specs.List.{AllByRecursion, flat_map, list_any}
 use Rattle.std.proofs.lemmas.Bool.{cases_Bool, false≢true, or_left, or_right}
 use Rattle.std.proofs.lemmas.List.{append-nil}
-use Rattle.std.proofs.lemmas.List.Concat.{flat_map-append}
-use Rattle.std.proofs.lemmas.List.Elements.{Contains-append_left, Contains-append_right}
 use Rattle.std.proofs.lemmas.Slice.Eq.{bytes_eq-Decides}
-use Rattle.table_model.specs.Lawful.{AreDifferent, IsLawful, IsWellGrouped, NoCreation, Rises}
-use Rattle.table_model.specs.Table.{Batch, Entry, creation, group, close, closes_of, is_stream_closed, last_item, numbers_by}
-use Rattle.table_model.proofs.Batches.{IsAbove, Rises-push, numbers_by-append, numbers_in}
-use Rattle.table_model.proofs.Facts.{cut_at}
-use Rattle.table_model.proofs.Kept.{begins-push, cut, each_push}
+use Rattle.table_model.specs.Lawful.{AreDifferent, Follows, IsLater, IsLawful, Rises, Suits}
+use Rattle.table_model.specs.Table.{Batch, Told, told_of, Entry, creation, group, close, closes_of, is_stream_closed, last_item, numbers_by}
+use Rattle.table_model.proofs.Batches.{IsAbove, Rises-push, filter-told, numbers_by-append, numbers_in}
+use Rattle.table_model.proofs.Kept.{close_follows, follows_keeps, lawful_follows}
 use Rattle.table_model.proofs.LawfulLemmas.{none_by}
 use Rattle.table_check.specs.Following.{IsAboveLast, IsNewToTable}
 use Rattle.table_check.proofs.Counts.{Among, all_from, among_to, each_among, find}
@@ -24,13 +21,17 @@ application_among b [] has = has
 application_among b (c ∷ bs) (inl is) = inl (ap (λ (x : Batch). x.application) is)
 application_among b (c ∷ bs) (inr more) = inr (application_among b bs more)
 
+-- where no batch is of an application, none of its numbers is told
+no_numbers : (application : List ℕ) (bs : List Batch) → filter (λ b. bytes_eq b.application application) bs ≡ [] → numbers_in application (map told_of bs) ≡ []
+no_numbers application bs none = ap (map (λ (t : Told). t.number)) (filter-told application bs ∙ ap (map told_of) none)
+
 -- of batches of different applications, an application has one number at most
-one_number : (b : Batch) (bs : List Batch) → AreDifferent (map (λ c. c.application) bs) → Among b bs → numbers_in b.application bs ≡ b.number ∷ []
+one_number : (b : Batch) (bs : List Batch) → AreDifferent (map (λ c. c.application) bs) → Among b bs → numbers_in b.application (map told_of bs) ≡ b.number ∷ []
 one_number b [] different has = absurd has
 one_number b (c ∷ bs) different (inl is) =
     let own : bytes_eq c.application b.application ≡ true = (bytes_eq-Decides c.application b.application).1 (ap (λ (x : Batch). x.application) (sym is)) in
-    let none : filter (λ d. bytes_eq d.application b.application) bs ≡ [] =
-    none_by b.application bs (λ again. different.0 (subst (Contains (map (λ d. d.application) bs)) (ap (λ (x : Batch). x.application) is) again)) in
+    let none : numbers_in b.application (map told_of bs) ≡ [] =
+    no_numbers b.application bs (none_by b.application bs (λ again. different.0 (subst (Contains (map (λ d. d.application) bs)) (ap (λ (x : Batch). x.application) is) again))) in
     rw (own, none) (ap (λ (x : Batch). x.number ∷ []) (sym is))
 one_number b (c ∷ bs) different (inr more) =
     elim (cases_Bool (bytes_eq c.application b.application)) [
@@ -41,10 +42,13 @@ one_number b (c ∷ bs) different (inr more) =
       | inr other ↦ rw other (one_number b bs different.1 more)
     ]
 
+-- the numbers that a group tells of an application
+numbers_of_group : (application : List ℕ) (bs : List Batch) → numbers_by application (group bs ∷ []) ≡ numbers_in application (map told_of bs)
+numbers_of_group application bs = ap (numbers_in application) (append-nil (map told_of bs))
+
 -- the numbers of an application with a group more
-numbers_more : (application : List ℕ) (entries : List Entry) (bs : List Batch) → numbers_by application (entries ++ group bs ∷ []) ≡ numbers_by application entries ++ numbers_in application bs
-numbers_more application entries bs =
-    numbers_by-append application entries (group bs ∷ []) ∙ ap (λ (cs : List Batch). numbers_by application entries ++ numbers_in application cs) (append-nil bs)
+numbers_more : (application : List ℕ) (entries : List Entry) (bs : List Batch) → numbers_by application (entries ++ group bs ∷ []) ≡ numbers_by application entries ++ numbers_in application (map told_of bs)
+numbers_more application entries bs = numbers_by-append application entries (group bs ∷ []) ∙ ap (λ (ns : List ℕ). numbers_by application entries ++ ns) (numbers_of_group application bs)
 
 -- ---- closed streams
 
@@ -53,14 +57,6 @@ any_seen : (application : List ℕ) (closed : List (List ℕ)) (k : ℕ) → k <
 any_seen application [] k lt is = absurd (omega arith)
 any_seen application (c ∷ closed) zero lt is = or_left (bytes_eq c application) (list_any (λ d. bytes_eq d application) closed) ((bytes_eq-Decides c application).1 is)
 any_seen application (c ∷ closed) (suc k) lt is = or_right (bytes_eq c application) (list_any (λ d. bytes_eq d application) closed) (any_seen application closed k (omega arith) is)
-
--- a close that stands is seen
-closed_seen : (application : List ℕ) (before after : List Entry) (entry : Entry) → Contains (closes_of entry) application → is_stream_closed application (before ++ entry ∷ after) ≡ true
-closed_seen application before after entry closes =
-    let behind : Contains (flat_map closes_of (entry ∷ after)) application = Contains-append_left (closes_of entry) (flat_map closes_of after) application closes in
-    let all = Contains-append_right (flat_map closes_of before) (flat_map closes_of (entry ∷ after)) application behind in
-    let there : Contains (flat_map closes_of (before ++ entry ∷ after)) application = subst (λ (cs : List (List ℕ)). Contains cs application) (sym (flat_map-append closes_of before (entry ∷ after))) all in
-    any_seen application (flat_map closes_of (before ++ entry ∷ after)) there.0 there.1 there.2
 
 -- the closes among which a test finds one of an application
 any_is : (application : List ℕ) (closed : List (List ℕ)) → list_any (λ c. bytes_eq c application) closed ≡ true → Contains closed application
@@ -73,21 +69,7 @@ any_is application (c ∷ closed) some =
           (suc later.0, omega (arith, later.1), later.2)
     ]
 
--- what isn't a close closes no stream
-no_close_of : (entry other : Entry) (application : List ℕ) → entry ≡ other → closes_of entry ≡ [] → Contains (closes_of other) application → ⊥
-no_close_of entry other application is none closes =
-    let no_one : Contains [] application = subst (λ (cs : List (List ℕ)). Contains cs application) (sym (ap closes_of is) ∙ none) closes in
-    omega (arith, no_one.1)
-
-nothing_more : {A : Type 0} (xs ys : List A) → xs ++ ys ≡ [] → ys ≡ []
-nothing_more [] ys none = none
-nothing_more (x ∷ xs) ys none = absurd cc
-
 -- ---- a group behind a lawful table
-
-each_last : {A : Type 0} (P : A → Type 0) (xs : List A) (x : A) → AllByRecursion P (xs ++ x ∷ []) → P x
-each_last P [] x all = all.0
-each_last P (y ∷ xs) x all = each_last P xs x all.1
 
 -- what is above the last is so by either definition
 is_above : (number : ℕ) (before : Option ℕ) → IsAboveLast number before → IsAbove number before
@@ -102,48 +84,44 @@ above_last (m ∷ k ∷ ns) n rises = above_last (k ∷ ns) n rises.1
 
 module _ (entries : List Entry) (bs : List Batch) where
   -- what stands behind a close isn't a batch of its stream
-  still_open : IsLawful (entries ++ group bs ∷ []) → (b : Batch) → Among b bs → numbers_in b.application bs ≡ b.number ∷ [] → is_stream_closed b.application entries ≡ false
-  still_open lawful b among own =
+  still_open : Follows entries (group bs) → (b : Batch) → numbers_in b.application (map told_of bs) ≡ b.number ∷ [] → is_stream_closed b.application entries ≡ false
+  still_open follows b own =
       elim (cases_Bool (is_stream_closed b.application entries)) [
         | inr open_still ↦ open_still
         | inl shut ↦
-            let at = cut_at closes_of entries b.application (any_is b.application (flat_map closes_of entries) shut) in
-            let all : entries ++ group bs ∷ [] ≡ at.before ++ at.one ∷ (at.after ++ group bs ∷ []) =
-            ap (λ (es : List Entry). es ++ group bs ∷ []) at.is ∙ append_assoc at.before (at.one ∷ at.after) (group bs ∷ []) in
-            let none = lawful.closed b.application at.before (at.after ++ group bs ∷ []) at.one all at.has in
-            let none_in : numbers_in b.application bs ≡ [] = nothing_more (numbers_by b.application (at.one ∷ at.after)) (numbers_in b.application bs) (sym (numbers_more b.application (at.one ∷ at.after) bs) ∙ none) in
-            let wrong : b.number ∷ [] ≡ [] = sym own ∙ none_in in
+            let none = follows.closed b.application (any_is b.application (flat_map closes_of entries) shut) in
+            let wrong : b.number ∷ [] ≡ [] = sym own ∙ sym (numbers_of_group b.application bs) ∙ none in
             absurd cc
       ]
 
   -- The batches of a lawful table's last group are new.
-  pub group_is_new : IsLawful (entries ++ group bs ∷ []) → IsWellGrouped (group bs) × AllByRecursion (IsNewToTable entries) bs
-  group_is_new lawful = (grouped, all_from (IsNewToTable entries) bs new)
+  pub group_is_new : IsLawful (entries ++ group bs ∷ []) → Suits entries (group bs) × AllByRecursion (IsNewToTable entries) bs
+  group_is_new lawful = (follows.suits, all_from (IsNewToTable entries) bs new)
     where
-      grouped : IsWellGrouped (group bs)
-      grouped = each_last IsWellGrouped entries (group bs) lawful.groups
+      follows : Follows entries (group bs)
+      follows = lawful_follows entries (group bs) lawful
 
       new : (b : Batch) → Among b bs → IsNewToTable entries b
       new b among =
-          let own = one_number b bs grouped.1 among in
+          let own = one_number b bs follows.suits.1 among in
           let rises : Rises (numbers_by b.application entries ++ b.number ∷ []) =
-          subst Rises (numbers_more b.application entries bs ∙ ap (λ (ns : List ℕ). numbers_by b.application entries ++ ns) own) (lawful.rises b.application) in
-          (above_last (numbers_by b.application entries) b.number rises, still_open lawful b among own)
+          subst Rises (numbers_more b.application entries bs ∙ ap (λ (ns : List ℕ). numbers_by b.application entries ++ ns) own) (follows.rises b.application) in
+          (above_last (numbers_by b.application entries) b.number rises, still_open follows b own)
 
--- an application's numbers in a group: its batch's, or none
-module _ (rest : List Entry) (bs : List Batch) (lawful : IsLawful (creation ∷ rest)) (grouped : IsWellGrouped (group bs)) (new : AllByRecursion (IsNewToTable (creation ∷ rest)) bs) where
-  own_or_none : (application : List ℕ) → ((b : Batch) × Among b bs × (b.application ≡ application)) ⊎ (numbers_in application bs ≡ [])
+module _ (rest : List Entry) (bs : List Batch) (lawful : IsLawful (creation ∷ rest)) (suits : Suits (creation ∷ rest) (group bs)) (new : AllByRecursion (IsNewToTable (creation ∷ rest)) bs) where
+  -- an application's numbers in a group: its batch's, or none
+  own_or_none : (application : List ℕ) → ((b : Batch) × Among b bs × (b.application ≡ application)) ⊎ (numbers_in application (map told_of bs) ≡ [])
   own_or_none application =
       elim (find (λ b. bytes_eq b.application application) bs) [
         | inl found ↦ inl (found.0, found.1, (bytes_eq-Decides found.0.application application).0 found.2)
-        | inr none ↦ inr (ap (map (λ (b : Batch). b.number)) none)
+        | inr none ↦ inr (no_numbers application bs none)
       ]
 
   rises_more : (application : List ℕ) → Rises (numbers_by application ((creation ∷ rest) ++ group bs ∷ []))
   rises_more application =
       elim (own_or_none application) [
         | inl own ↦ subst (λ (a : List ℕ). Rises (numbers_by a ((creation ∷ rest) ++ group bs ∷ []))) own.2
-            (subst Rises (sym (numbers_more own.0.application (creation ∷ rest) bs ∙ ap (λ (ns : List ℕ). numbers_by own.0.application (creation ∷ rest) ++ ns) (one_number own.0 bs grouped.1 own.1)))
+            (subst Rises (sym (numbers_more own.0.application (creation ∷ rest) bs ∙ ap (λ (ns : List ℕ). numbers_by own.0.application (creation ∷ rest) ++ ns) (one_number own.0 bs suits.1 own.1)))
             (Rises-push (numbers_by own.0.application (creation ∷ rest)) own.0.number (lawful.rises own.0.application) (is_above own.0.number (last_item (numbers_by own.0.application (creation ∷ rest))) (each_among (IsNewToTable (creation ∷ rest)) own.0 bs new own.1).0)))
         | inr none ↦
             let same : numbers_by application ((creation ∷ rest) ++ group bs ∷ []) ≡ numbers_by application (creation ∷ rest) =
@@ -151,54 +129,28 @@ module _ (rest : List Entry) (bs : List Batch) (lawful : IsLawful (creation ∷ 
             rw same (lawful.rises application)
       ]
 
-  none_of_closed : (application : List ℕ) → is_stream_closed application (creation ∷ rest) ≡ true → numbers_in application bs ≡ []
-  none_of_closed application shut =
+  none_of_closed : (application : List ℕ) → Contains (flat_map closes_of (creation ∷ rest)) application → numbers_by application (group bs ∷ []) ≡ []
+  none_of_closed application closes =
       elim (own_or_none application) [
-        | inr none ↦ none
+        | inr none ↦ numbers_of_group application bs ∙ none
         | inl own ↦
+            let shut : is_stream_closed application (creation ∷ rest) ≡ true = any_seen application (flat_map closes_of (creation ∷ rest)) closes.0 closes.1 closes.2 in
             let still : is_stream_closed application (creation ∷ rest) ≡ false = subst (λ (a : List ℕ). is_stream_closed a (creation ∷ rest) ≡ false) own.2 (each_among (IsNewToTable (creation ∷ rest)) own.0 bs new own.1).1 in
             absurd (false≢true (sym still ∙ shut))
       ]
 
-  closed_more : (application : List ℕ) (before after : List Entry) (entry : Entry) → (creation ∷ rest) ++ group bs ∷ [] ≡ before ++ entry ∷ after → Contains (closes_of entry) application → numbers_by application (entry ∷ after) ≡ []
-  closed_more application before after entry e closes =
-      elim (cut (creation ∷ rest) (group bs) before entry after e) [
-        | inl h ↦ absurd (no_close_of (group bs) entry application h.0 refl closes)
-        | inr h ↦
-            let none : numbers_by application (entry ∷ h.between) ≡ [] = lawful.closed application before h.between entry h.front closes in
-            let shut : is_stream_closed application (creation ∷ rest) ≡ true = ap (is_stream_closed application) h.front ∙ closed_seen application before h.between entry closes in
-            ap (λ (es : List Entry). numbers_by application (entry ∷ es)) h.rest ∙ (numbers_more application (entry ∷ h.between) bs ∙ rw (none, none_of_closed application shut) refl)
-      ]
-
   -- A group of new batches of different applications leaves a lawful table lawful.
   pub group_kept : IsLawful ((creation ∷ rest) ++ group bs ∷ [])
-  group_kept = record {
-    begins = begins-push creation rest (group bs) lawful.begins tt;
-    groups = each_push IsWellGrouped (creation ∷ rest) (group bs) lawful.groups grouped;
-    rises = rises_more;
-    closed = closed_more;
-  }
+  group_kept = follows_keeps creation rest (group bs) lawful tt (record { suits = suits; rises = rises_more; closed = none_of_closed })
 
 -- A close leaves it lawful, whether the stream was open or closed.
 pub close_kept : (application : List ℕ) (rest : List Entry) → IsLawful (creation ∷ rest) → IsLawful ((creation ∷ rest) ++ close application ∷ [])
-close_kept application rest lawful = record {
-  begins = begins-push creation rest (close application) lawful.begins tt;
-  groups = each_push IsWellGrouped (creation ∷ rest) (close application) lawful.groups tt;
-  rises = λ other. let same : numbers_by other ((creation ∷ rest) ++ close application ∷ []) ≡ numbers_by other (creation ∷ rest) = numbers_by-append other (creation ∷ rest) (close application ∷ []) ∙ append-nil (numbers_by other (creation ∷ rest)) in rw same (lawful.rises other);
-  closed = λ other before after entry e closes. elim (cut (creation ∷ rest) (close application) before entry after e) [
-    | inl h ↦ ap (λ (es : List Entry). numbers_by other (entry ∷ es)) h.1 ∙ ap (λ (x : Entry). numbers_by other (x ∷ [])) (sym h.0)
-    | inr h ↦
-        let none : numbers_by other (entry ∷ h.between) ≡ [] = lawful.closed other before h.between entry h.front closes in
-        ap (λ (es : List Entry). numbers_by other (entry ∷ es)) h.rest ∙ numbers_by-append other (entry ∷ h.between) (close application ∷ []) ∙ rw none refl
-  ];
-}
+close_kept application rest lawful = follows_keeps creation rest (close application) lawful tt (close_follows application (creation ∷ rest) lawful)
 
 -- No creation stands behind others.
-no_creation_last : (entries : List Entry) → NoCreation (entries ++ creation ∷ []) → ⊥
-no_creation_last [] none = none
-no_creation_last (creation ∷ entries) none = none
-no_creation_last (group bs ∷ entries) none = no_creation_last entries none
-no_creation_last (close application ∷ entries) none = no_creation_last entries none
+no_creation_last : (entries : List Entry) → AllByRecursion IsLater (entries ++ creation ∷ []) → ⊥
+no_creation_last [] later = later.0
+no_creation_last (entry ∷ entries) later = no_creation_last entries later.1
 
 pub no_creation_behind : (rest : List Entry) → IsLawful ((creation ∷ rest) ++ creation ∷ []) → ⊥
 no_creation_behind rest lawful = no_creation_last rest lawful.begins

@@ -12,7 +12,7 @@ use Rattle.table_log.specs.Restoring.{IsSoundCheckpoint, checkpoint_version}
 use Rattle.table_log.proofs.Callers.{checkpoint_named, commit_is_none}
 use Rattle.table_model.specs.Lawful.{IsLawful}
 use Rattle.table_model.specs.Table.{Entry}
-use Rattle.table_model.proofs.Callers.{lawful-front}
+use Rattle.table_model.proofs.Callers.{Begins-front, lawful-front}
 use Rattle.table_store.specs.Holds.{HoldsFirst}
 use Rattle.table_store.specs.Schema.{Schema}
 use Rattle.table_store.proofs.HeldLemmas.{HoldsFirst-end}
@@ -113,18 +113,19 @@ module _ (objects : Objects) where
 
   first_of : (schema : Schema) (version : ℕ) (entries later : List Entry) → HoldsFirst objects schema version (entries ++ later) → HoldsFirst objects schema version entries
   first_of schema version [] later stand = tt
-  first_of schema version (entry ∷ entries) later stand = (stand.0, stand.1, first_of schema (suc version) entries later stand.2)
+  first_of schema version (entry ∷ entries) later stand = (stand.0, stand.1, stand.2, first_of schema (suc version) entries later stand.3)
 
   -- Below a version that isn't behind the first commits, these break nothing.
   pub front_below : (schema : Schema) (entries : List Entry) (version : ℕ) → HoldsFirst objects schema 0 entries → IsLawful entries → version ≤ length entries → AreCheckpointsSoundBelow objects version → IsSoundBelow objects version
   front_below schema entries version stand lawful short below =
       let parts : entries ≡ take version entries ++ drop version entries = sym (take-append-drop version entries) in
       let long : length (take version entries) ≡ version = length-take-le version entries short in
+      let whole : IsLawful (take version entries ++ drop version entries) = subst IsLawful parts lawful in
       record {
         schema = schema;
         entries = take version entries;
         stand = first_of schema 0 (take version entries) (drop version entries) (subst (HoldsFirst objects schema 0) parts stand);
-        lawful = lawful-front (take version entries) (drop version entries) (subst IsLawful parts lawful);
+        lawful = lawful-front (take version entries) (drop version entries) whole (Begins-front (take version entries) (drop version entries) whole.begins);
         few = omega (arith, long);
         ends = λ later behind before fits. absurd (omega (arith, long, behind, before));
         checkpoints = below;

@@ -1,7 +1,6 @@
 -- A commit or a checkpoint behind the first version without a commit makes a store unsound, and so does a checkpoint that
 -- isn't that of its version.
-use Rattle.std.proofs.Common.{◌≡◌, ℕ, zero, suc, ◌+◌, ◌<◌, ◌≤◌, false, true, List, [], ◌∷◌, ◌++◌, length, Option, None, Some, IsSome, Result, Err, Ok, refl, sym, ap, subst, ◌∙◌, arith, inl, inr, leb, length-append, add-one}
-use Rattle.std.specs.List.{Contains}
+use Rattle.std.proofs.Common.{◌≡◌, ℕ, zero, suc, ◌+◌, ◌<◌, ◌≤◌, false, true, List, [], ◌∷◌, ◌++◌, length, Option, None, Some, IsSome, Result, Err, Ok, refl, sym, ap, subst, ◌∙◌, arith, inl, inr, leb, add-one}
 use Rattle.std.proofs.lemmas.Bool.{cases_Bool, cases_eq, cases_lt}
 use Rattle.outcomes.specs.Results.{◌>>=◌}
 use Rattle.delta_actions.specs.Action.{Action}
@@ -14,8 +13,8 @@ use Rattle.store_core.specs.ObjectLaws.{listed_iff_stands}
 use Rattle.log_laws.specs.Sound.{IsSoundStore}
 use Rattle.table_log.specs.Restoring.{checkpoint_version}
 use Rattle.table_log.specs.Versions.{Version, commit_of, commits_in, version_by, version_read, versions_from}
-use Rattle.table_model.specs.Lawful.{IsLawful}
-use Rattle.table_model.specs.Table.{Entry, closes_of, numbers_by}
+use Rattle.table_model.specs.Table.{Entry}
+use Rattle.table_model.proofs.Callers.{none_is_lawful}
 use Rattle.table_store.specs.Holds.{HoldsFirst}
 use Rattle.table_store.specs.Schema.{Schema}
 use Rattle.table_check.specs.Below.{AreCheckpointsSoundBelow, IsSoundBelow}
@@ -90,7 +89,7 @@ module _ (objects : Objects) where
         | inl here ↦
             let absent : object_at objects (commit_name version) ≡ None = subst (λ (v : ℕ). object_at objects (commit_name v) ≡ None) here none in
             let wrong : None ≡ Some stand.0.0 = sym absent ∙ stand.0.1 in absurd cc
-        | inr other ↦ none_first schema (suc version) wanted entries stand.2 (omega (arith, low, other)) (omega (arith, high)) none
+        | inr other ↦ none_first schema (suc version) wanted entries stand.3 (omega (arith, low, other)) (omega (arith, high)) none
       ]
 
   -- ---- what stands behind a gap
@@ -134,19 +133,13 @@ module _ (objects : Objects) where
   no_checkpoints : AreCheckpointsSoundBelow objects 0
   no_checkpoints name at bytes told before there = absurd (omega (arith, before))
 
-  no_close : (application : List ℕ) (before after : List Entry) (entry : Entry) → [] ≡ before ++ entry ∷ after → Contains (closes_of entry) application → numbers_by application (entry ∷ after) ≡ []
-  no_close application before after entry is closes = absurd (omega (arith, ap (λ (all : List Entry). length all) is, length-append before (entry ∷ after)))
-
-  no_entries : IsLawful []
-  no_entries = record { begins = tt; groups = tt; rises = λ application. tt; closed = no_close }
-
   -- Where no name tells a version the store is sound.
   pub nothing_sound : least_named 0 (names_of objects) ≡ None → IsSoundStore objects
-  nothing_sound none = ends_sound objects 0 (struct no_fields) [] tt no_entries refl no_checkpoints (omega arith) none
+  nothing_sound none = ends_sound objects 0 (struct no_fields) [] tt none_is_lawful refl no_checkpoints (omega arith) none
 
   -- Else it is sound below the least that names tell.
   pub nothing_below : (least : ℕ) → least_named 0 (names_of objects) ≡ Some least → IsSoundBelow objects least
-  nothing_below least is = ends_below objects 0 (struct no_fields) [] tt no_entries refl no_checkpoints least is
+  nothing_below least is = ends_below objects 0 (struct no_fields) [] tt none_is_lawful refl no_checkpoints least is
 
   -- So each store is below version 0.
   pub zero_below : IsSoundBelow objects 0
@@ -154,7 +147,7 @@ module _ (objects : Objects) where
     schema = struct no_fields;
     entries = [];
     stand = tt;
-    lawful = no_entries;
+    lawful = none_is_lawful;
     few = omega arith;
     ends = λ later behind before fits. absurd (omega (arith, before));
     checkpoints = no_checkpoints;

@@ -13,7 +13,7 @@ use Rattle.store_core.specs.Objects.{Objects, object_at}
 use Rattle.table_log.specs.Restoring.{IsSoundCheckpoint, checkpoint_version}
 use Rattle.table_log.specs.Versions.{commits_in, versions_from}
 use Rattle.table_log.proofs.Callers.{front_behind, of_commit}
-use Rattle.table_model.specs.Lawful.{IsLawful, IsWellGrouped}
+use Rattle.table_model.specs.Lawful.{IsLawful, Suits}
 use Rattle.table_model.specs.Table as tables
 use Rattle.table_model.specs.Table.{Batch, Entry, creation, group, close}
 use Rattle.table_model.proofs.Callers.{last_number as last_of_numbers, new_is_lawful}
@@ -21,6 +21,7 @@ use Rattle.table_model.proofs.Kept.{each_push}
 use Rattle.table_store.specs.Commits.{IsCommitOf}
 use Rattle.table_store.specs.Holds.{FilesStand}
 use Rattle.table_store.specs.Schema.{Schema}
+use Rattle.table_store.proofs.GivenFiles.{files_stand}
 use Rattle.table_store.proofs.HeldLemmas.{HoldsFirst-push}
 use Rattle.table_store.proofs.LawfulLogLemmas.{AreMadeFor}
 use Rattle.log_laws.proofs.Callers.{front_made, log_last, log_open}
@@ -44,7 +45,7 @@ module _ (objects : Objects) where
       → IsWalked objects schema 1 (made ∷ [])
   first_walked schema bytes made there commit lines printable = record {
     later = [];
-    stand = ((bytes, there, commit), tt, tt);
+    stand = ((bytes, there, commit), files_stand objects schema creation tt, tt, tt);
     lawful = new_is_lawful;
     at = refl;
     read = one_read 0 bytes made there lines;
@@ -67,15 +68,15 @@ module _ (objects : Objects) where
     new_batches [] new = tt
     new_batches (b ∷ bs) new = (new_batch b new.0, new_batches bs new.1)
 
-    grouped : (bs : List Batch) → AreNewIn log (map named bs) → IsWellGrouped (group bs)
-    grouped bs new = (
+    suits : (bs : List Batch) → AreNewIn log (map named bs) → Suits (creation ∷ walked.later) (group bs)
+    suits bs new = (
       λ none. new.0 (ap (map named) none),
       rw (map-map (λ (n : List ℕ × ℕ). n.0) named bs) at new.1,
     )
 
     lawful_with : (entry : Entry) → MayFollow log entry → IsLawful ((creation ∷ walked.later) ++ entry ∷ [])
     lawful_with creation may = absurd may
-    lawful_with (group bs) may = group_kept walked.later bs walked.lawful (grouped bs may) (new_batches bs may.2)
+    lawful_with (group bs) may = group_kept walked.later bs walked.lawful (suits bs may) (new_batches bs may.2)
     lawful_with (close application) may = close_kept application walked.later walked.lawful
 
     -- A commit more is walked over.

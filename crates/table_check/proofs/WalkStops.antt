@@ -38,8 +38,8 @@ module _ (objects : Objects) (schema : Schema) where
       let bytes : p.0.0 ≡ q.0.0 = one_object objects (commit_name version) (commit_name version) _ _ p.0 q.0 refl in
       let lists = one_list p.0.0 q.0.0 schema schema entry found bytes p.0.2 q.0.2 in
       let stand : StandFor schema entry (without_commit_info q.0.2.actions) = subst (λ (actions : List Action). StandFor schema entry (without_commit_info actions)) lists p.0.2.stand in
-      let first : entry ≡ found = one_entry objects schema entry found (without_commit_info q.0.2.actions) stand q.0.2.stand p.1 q.1 in
-      let later = front_is (suc version) entries others p.2 q.2 (omega (arith, long)) in
+      let first : entry ≡ found = one_entry objects schema entry found (without_commit_info q.0.2.actions) stand q.0.2.stand p.1.given q.1.given in
+      let later = front_is (suc version) entries others p.3 q.3 (omega (arith, long)) in
       (later.0, ap₂ (λ (e : Entry) (es : List Entry). e ∷ es) (sym first) later.1)
 
   -- the last of several entries stands
@@ -48,7 +48,7 @@ module _ (objects : Objects) (schema : Schema) where
   last_of version next [] entry at stand =
       let here : version ≡ next = omega (arith, at) in
       (subst (λ (v : ℕ). Stands objects (commit_name v) (IsCommitOf schema entry)) here stand.0, stand.1)
-  last_of version next (first ∷ entries) entry at stand = last_of (suc version) next entries entry (omega (arith, at)) stand.2
+  last_of version next (first ∷ entries) entry at stand = last_of (suc version) next entries entry (omega (arith, at)) stand.3
 
   -- An entry whose commit has these bytes, and which stands behind others in a lawful table.
   pub record Next (entries : List Entry) (bytes : List ℕ) : Type 0 where

@@ -16,7 +16,7 @@ ghost use Rattle.log_laws.specs.Sound.{IsSoundStore};
 ghost use Rattle.store_core.specs.Objects.{Objects, names_of, object_at};
 ghost use Rattle.table_log.specs.Counts.{commit_count};
 ghost use Rattle.table_log.specs.Restoring.{IsSoundCheckpoint, checkpoint_version};
-ghost use Rattle.table_model.specs.Lawful.{IsLawful, IsWellGrouped};
+ghost use Rattle.table_model.specs.Lawful.{IsLawful, Suits};
 ghost use Rattle.table_model.specs.Table.{Batch, Entry, creation, group, close};
 ghost use Rattle.table_store.specs.Commits.{IsCommitOf, StandFor, without_commit_info};
 ghost use Rattle.table_store.specs.Groups.{numbers};
@@ -44,8 +44,8 @@ pub fn a_store_is_sound_or_has_one_first_unsound_version()
 /// different applications, each has a number above its application's last one, and its stream is open. A close always
 /// may, and a creation never.
 pub fn a_lawful_table_goes_on()
-    ensures group { (later : List Entry) (bs : List Batch) → IsLawful (creation ∷ later) → IsWellGrouped (group bs) → AllByRecursion (IsNewToTable (creation ∷ later)) bs → IsLawful ((creation ∷ later) ++ group bs ∷ []) }
-    ensures new { (entries : List Entry) (bs : List Batch) → IsLawful (entries ++ group bs ∷ []) → IsWellGrouped (group bs) × AllByRecursion (IsNewToTable entries) bs }
+    ensures group { (later : List Entry) (bs : List Batch) → IsLawful (creation ∷ later) → Suits (creation ∷ later) (group bs) → AllByRecursion (IsNewToTable (creation ∷ later)) bs → IsLawful ((creation ∷ later) ++ group bs ∷ []) }
+    ensures new { (entries : List Entry) (bs : List Batch) → IsLawful (entries ++ group bs ∷ []) → Suits entries (group bs) × AllByRecursion (IsNewToTable entries) bs }
     ensures closed { (application : List ℕ) (later : List Entry) → IsLawful (creation ∷ later) → IsLawful ((creation ∷ later) ++ close application ∷ []) }
     ensures created { (later : List Entry) → IsLawful ((creation ∷ later) ++ creation ∷ []) → ⊥ }
 {}

@@ -1,101 +1,132 @@
--- A table stays lawful where an entry comes between its entries and its last one.
-use Rattle.std.proofs.Common.{◌≡◌, ℕ, List, [], ◌∷◌, ◌++◌, map, Contains, refl, sym, ap, subst, ◌∙◌, append_assoc, inl, inr}
-use Rattle.std.specs.Prelude.{bytes_eq, filter}
-use Rattle.std.specs.List.{AllByRecursion}
+-- A candidate that may be put at a version may be put behind the entry that stands there, where the two are apart.
+use Rattle.std.proofs.Common.{◌≡◌, ℕ, suc, true, List, [], ◌∷◌, ◌++◌, map, Contains, refl, sym, ap, subst, ◌∙◌, append_assoc, arith, inl, inr}
+use Rattle.std.specs.Prelude.{bytes_eq}
+use Rattle.std.specs.List.{AllByRecursion, flat_map}
+use Rattle.std.proofs.lemmas.Bool.{cases_Bool}
+use Rattle.std.proofs.lemmas.Slice.Eq.{bytes_eq-Decides}
 use Rattle.std.proofs.lemmas.List.{append-nil}
-use Rattle.table_model.specs.Table.{Batch, Entry, creation, group, close, batches_of, closes_of, numbers_by}
-use Rattle.table_model.specs.Lawful.{NoCreation, BeginsWithCreation, Rises, IsWellGrouped, IsLawful}
+use Rattle.std.proofs.lemmas.List.Concat.{flat_map-append}
+use Rattle.std.proofs.lemmas.List.Elements.{Contains-append_cases}
+use Rattle.table_model.specs.Table.{Path, Told, Entry, creation, group, close, closes_of, has_protocol, names, numbers_by, tells}
+use Rattle.table_model.specs.Lawful.{Begins, Follows, IsLater, IsLawful, Rises, Suits}
 use Rattle.table_model.proofs.Batches.{numbers_in, numbers_by-append}
-use Rattle.table_model.proofs.Kept.{begins-push, cut, each_push}
-use Rattle.table_model.proofs.LawfulLemmas.{NoCreation-behind, none_by, not_both}
+use Rattle.table_model.proofs.Facts.{Begins-front, lawful-front}
+use Rattle.table_model.proofs.Kept.{Begins-push, follows_keeps, lawful_follows}
 
--- the applications of an entry's batches, in order
-abbrev pub applications_in : Entry → List (List ℕ)
-applications_in entry = map (λ b. b.application) (batches_of entry)
+-- the applications of which an entry tells a number
+abbrev pub writes : Entry → List (List ℕ)
+writes entry = map (λ t. t.application) (tells entry)
 
--- ---- what holds of the last entry
-
-NoCreation-last : (entries : List Entry) (entry : Entry) → NoCreation (entries ++ entry ∷ []) → NoCreation (entry ∷ [])
-NoCreation-last [] entry none = none
-NoCreation-last (first ∷ entries) entry none = NoCreation-last entries entry (NoCreation-behind first (entries ++ entry ∷ []) none)
-
-begins-last : (first : Entry) (entries : List Entry) (entry : Entry) → BeginsWithCreation (first ∷ (entries ++ entry ∷ [])) → NoCreation (entry ∷ [])
-begins-last creation entries entry none = NoCreation-last entries entry none
-begins-last (group bs) entries entry begins = absurd begins
-begins-last (close application) entries entry begins = absurd begins
-
-each_last : {A : Type 0} (P : A → Type 0) (xs : List A) (x : A) → AllByRecursion P (xs ++ x ∷ []) → P x
-each_last P [] x all = all.0
-each_last P (y ∷ xs) x all = each_last P xs x all.1
-
-no_more : {A : Type 0} (xs ys : List A) → xs ++ ys ≡ [] → ys ≡ []
-no_more [] ys none = none
-no_more (x ∷ xs) ys none = absurd cc
-
--- an entry without a batch of the application has no number of it
-no_number : (application : List ℕ) (entry : Entry) → filter (λ b. bytes_eq b.application application) (batches_of entry) ≡ [] → numbers_by application (entry ∷ []) ≡ []
-no_number application entry none =
-    ap (λ (bs : List Batch). numbers_in application bs) (append-nil (batches_of entry)) ∙ ap (λ (bs : List Batch). map (λ b. b.number) bs) none
-
--- The entry between and the last one have batches of different applications, and the one between closes no stream that
--- the last one has a batch of.
+-- The entry between tells no protocol, and it and the last one tell numbers of different applications; the one between
+-- closes no stream of which the last one tells a number; and their commits name different paths.
 pub record AreApart (between last : Entry) : Type 0 where
-  pub batches : (application : List ℕ) → Contains (applications_in between) application → Contains (applications_in last) application → ⊥
-  pub closes : (application : List ℕ) → Contains (closes_of between) application → Contains (applications_in last) application → ⊥
+  pub protocol : has_protocol between ≡ true → ⊥
+  pub applications : (application : List ℕ) → Contains (writes between) application → Contains (writes last) application → ⊥
+  pub closes : (application : List ℕ) → Contains (closes_of between) application → Contains (writes last) application → ⊥
+  pub paths : (path : Path) → Contains (names between) path → Contains (names last) path → ⊥
 
-module _ (first : Entry) (entries : List Entry) (between last : Entry) (front : IsLawful ((first ∷ entries) ++ between ∷ [])) (back : IsLawful ((first ∷ entries) ++ last ∷ [])) (apart : AreApart between last) where
-  -- the entries up to the one between
-  abbrev before_last : List Entry
-  before_last = first ∷ (entries ++ between ∷ [])
+-- an application of which a number is told is written
+written : (application : List ℕ) (ts : List Told) (n : ℕ) (ns : List ℕ) → numbers_in application ts ≡ n ∷ ns → Contains (map (λ t. t.application) ts) application
+written application [] n ns e = absurd cc
+written application (t ∷ ts) n ns e =
+    elim (cases_Bool (bytes_eq t.application application)) [
+      | inl own ↦ (0, omega arith, (bytes_eq-Decides t.application application).0 own)
+      | inr other ↦
+          let on : numbers_in application ts ≡ n ∷ ns = rw other at e in
+          let later = written application ts n ns on in
+          (suc later.0, omega (arith, later.1), later.2)
+    ]
 
-  -- an application's numbers rise: the two entries don't both have one
-  rises : (application : List ℕ) → Rises (numbers_by application (before_last ++ last ∷ []))
-  rises application = by_last (filter (λ b. bytes_eq b.application application) (batches_of last)) refl
-    where
-      by_last : (own : List Batch) → filter (λ b. bytes_eq b.application application) (batches_of last) ≡ own → Rises (numbers_by application (before_last ++ last ∷ []))
-      by_last [] none =
-          let same : numbers_by application (before_last ++ last ∷ []) ≡ numbers_by application before_last =
-          numbers_by-append application before_last (last ∷ []) ∙ ap (λ (ns : List ℕ). numbers_by application before_last ++ ns) (no_number application last none) ∙ append-nil (numbers_by application before_last) in
-          rw same (front.rises application)
-      by_last (b ∷ bs) some =
-          let none : numbers_by application (between ∷ []) ≡ [] =
-          no_number application between (none_by application (batches_of between) (λ written. not_both _ b bs (none_by application (batches_of last) (apart.batches application written)) some)) in
-          let shorter : numbers_by application before_last ≡ numbers_by application (first ∷ entries) =
-          numbers_by-append application (first ∷ entries) (between ∷ []) ∙ ap (λ (ns : List ℕ). numbers_by application (first ∷ entries) ++ ns) none ∙ append-nil (numbers_by application (first ∷ entries)) in
-          let same : numbers_by application (before_last ++ last ∷ []) ≡ numbers_by application ((first ∷ entries) ++ last ∷ []) =
-          numbers_by-append application before_last (last ∷ []) ∙ ap (λ (ns : List ℕ). ns ++ numbers_by application (last ∷ [])) shorter ∙ sym (numbers_by-append application (first ∷ entries) (last ∷ [])) in
-          rw same (back.rises application)
+written_by : (application : List ℕ) (e : Entry) (n : ℕ) (ns : List ℕ) → numbers_by application (e ∷ []) ≡ n ∷ ns → Contains (writes e) application
+written_by application e n ns is = written application (tells e) n ns (ap (λ (ts : List Told). numbers_in application ts) (sym (append-nil (tells e))) ∙ is)
 
-  -- where an entry in front of the last one closes a stream, the last one has no number of it
-  none_at_last : (application : List ℕ) (before after : List Entry) (entry : Entry) → before_last ≡ before ++ entry ∷ after → Contains (closes_of entry) application → numbers_by application (last ∷ []) ≡ []
-  none_at_last application before after entry e closes =
-      elim (cut (first ∷ entries) between before entry after e) [
-        | inl h ↦
-            let closed : Contains (closes_of between) application = subst (λ (x : Entry). Contains (closes_of x) application) (sym h.0) closes in
-            no_number application last (none_by application (batches_of last) (apart.closes application closed))
-        | inr h ↦
-            let parts : (first ∷ entries) ++ last ∷ [] ≡ before ++ entry ∷ (h.between ++ last ∷ []) = ap (λ (es : List Entry). es ++ last ∷ []) h.front ∙ append_assoc before (entry ∷ h.between) (last ∷ []) in
-            let none : numbers_by application (entry ∷ (h.between ++ last ∷ [])) ≡ [] = back.closed application before (h.between ++ last ∷ []) entry parts closes in
-            no_more (numbers_by application (entry ∷ h.between)) (numbers_by application (last ∷ [])) (sym (numbers_by-append application (entry ∷ h.between) (last ∷ [])) ∙ none)
+-- ---- by kinds
+
+-- what may be put and tells no protocol is a later entry
+is_later : (entries : List Entry) (e : Entry) → Begins (entries ++ e ∷ []) → (has_protocol e ≡ true → ⊥) → IsLater e
+is_later entries creation begins none = absurd (none refl)
+is_later entries (group bs) begins none = tt
+is_later entries (close application) begins none = tt
+
+each_at : (entries : List Entry) (e : Entry) (more : List Entry) → AllByRecursion IsLater (entries ++ e ∷ more) → IsLater e
+each_at [] e more all = all.0
+each_at (x ∷ entries) e more all = each_at entries e more all.1
+
+-- where an entry that begins a table may be put, one that tells a protocol stands
+first_again : (entries : List Entry) (e winner : Entry) (more : List Entry) → Begins (entries ++ e ∷ []) → has_protocol e ≡ true → Begins (entries ++ winner ∷ more) → has_protocol winner ≡ true
+first_again [] e creation more begins has table = refl
+first_again [] e (group bs) more begins has table = absurd table
+first_again [] e (close application) more begins has table = absurd table
+first_again (creation ∷ entries) creation winner more begins has table = absurd (each_at entries creation [] begins)
+first_again (creation ∷ entries) (group bs) winner more begins has table = absurd cc
+first_again (creation ∷ entries) (close application) winner more begins has table = absurd cc
+first_again (group bs ∷ entries) e winner more begins has table = absurd begins
+first_again (close application ∷ entries) e winner more begins has table = absurd begins
+
+-- behind which something stands
+record HasBegun (entries : List Entry) : Type 0 where
+  first : Entry
+  others : List Entry
+  is : entries ≡ first ∷ others
+
+has_begun : (entries : List Entry) (e : Entry) → Begins (entries ++ e ∷ []) → IsLater e → HasBegun entries
+has_begun [] creation begins later = absurd later
+has_begun [] (group bs) begins later = absurd begins
+has_begun [] (close application) begins later = absurd begins
+has_begun (first ∷ others) e begins later = record { first = first; others = others; is = refl }
+
+suits_on : (before : List Entry) (between e : Entry) → Suits before e → Suits (before ++ between ∷ []) e
+suits_on before between creation suits = tt
+suits_on before between (group bs) suits = suits
+suits_on before between (close application) suits = tt
+
+-- ---- behind the entry between
+
+module _ (entries : List Entry) (between last : Entry) (apart : AreApart between last) where
+  -- an application's numbers rise: the two entries don't both tell one
+  by_between : (application : List ℕ) (n : ℕ) (ns ms : List ℕ) → numbers_by application (between ∷ []) ≡ ms → numbers_by application (last ∷ []) ≡ n ∷ ns → Follows entries last
+      → Rises (numbers_by application ((entries ++ between ∷ []) ++ last ∷ []))
+  by_between application n ns [] is mine f =
+      let front : numbers_by application (entries ++ between ∷ []) ≡ numbers_by application entries =
+      numbers_by-append application entries (between ∷ []) ∙ ap (λ (xs : List ℕ). numbers_by application entries ++ xs) is ∙ append-nil (numbers_by application entries) in
+      let all = numbers_by-append application (entries ++ between ∷ []) (last ∷ []) ∙ ap (λ (xs : List ℕ). xs ++ numbers_by application (last ∷ [])) front ∙ sym (numbers_by-append application entries (last ∷ [])) in
+      subst Rises (sym all) (f.rises application)
+  by_between application n ns (m ∷ ms) is mine f = absurd (apart.applications application (written_by application between m ms is) (written_by application last n ns mine))
+
+  by_last : (application : List ℕ) (ns : List ℕ) → numbers_by application (last ∷ []) ≡ ns → IsLawful (entries ++ between ∷ []) → Follows entries last
+      → Rises (numbers_by application ((entries ++ between ∷ []) ++ last ∷ []))
+  by_last application [] is front f =
+      let all = numbers_by-append application (entries ++ between ∷ []) (last ∷ []) ∙ ap (λ (xs : List ℕ). numbers_by application (entries ++ between ∷ []) ++ xs) is ∙ append-nil (numbers_by application (entries ++ between ∷ [])) in
+      subst Rises (sym all) (front.rises application)
+  by_last application (n ∷ ns) is front f = by_between application n ns (numbers_by application (between ∷ [])) refl is f
+
+  -- where a stream is closed, the last entry tells no number of it
+  none_at_last : (application : List ℕ) (ns : List ℕ) → numbers_by application (last ∷ []) ≡ ns → Follows entries last → Contains (flat_map closes_of (entries ++ between ∷ [])) application → ns ≡ []
+  none_at_last application [] is f shut = refl
+  none_at_last application (n ∷ ns) is f shut =
+      let parts = subst (λ (cs : List (List ℕ)). Contains cs application) (flat_map-append closes_of entries (between ∷ [])) shut in
+      elim (Contains-append_cases (flat_map closes_of entries) (closes_of between ++ []) application parts) [
+        | inl early ↦ sym is ∙ f.closed application early
+        | inr won ↦
+            let now = subst (λ (cs : List (List ℕ)). Contains cs application) (append-nil (closes_of between)) won in
+            absurd (apart.closes application now (written_by application last n ns is))
       ]
 
-  closed : (application : List ℕ) (before after : List Entry) (entry : Entry) → before_last ++ last ∷ [] ≡ before ++ entry ∷ after → Contains (closes_of entry) application → numbers_by application (entry ∷ after) ≡ []
-  closed application before after entry e closes =
-      elim (cut before_last last before entry after e) [
-        | inl h ↦
-            let none : numbers_by application (last ∷ []) ≡ [] = back.closed application (first ∷ entries) [] last refl (subst (λ (x : Entry). Contains (closes_of x) application) (sym h.0) closes) in
-            ap (λ (es : List Entry). numbers_by application (entry ∷ es)) h.1 ∙ ap (λ (x : Entry). numbers_by application (x ∷ [])) (sym h.0) ∙ none
-        | inr h ↦
-            let none : numbers_by application (entry ∷ h.between) ≡ [] = front.closed application before h.between entry h.front closes in
-            let none_last : numbers_by application (last ∷ []) ≡ [] = none_at_last application before h.between entry h.front closes in
-            ap (λ (es : List Entry). numbers_by application (entry ∷ es)) h.rest ∙ numbers_by-append application (entry ∷ h.between) (last ∷ []) ∙ rw (none, none_last) refl
-      ]
+  follows_on : IsLawful (entries ++ between ∷ []) → Follows entries last → Follows (entries ++ between ∷ []) last
+  follows_on front f = record {
+    suits = suits_on entries between last f.suits;
+    rises = λ application. by_last application (numbers_by application (last ∷ [])) refl front f;
+    closed = λ application shut. none_at_last application (numbers_by application (last ∷ [])) refl f shut;
+  }
 
   -- The table with both is lawful.
-  pub lawful-between : IsLawful (((first ∷ entries) ++ between ∷ []) ++ last ∷ [])
-  lawful-between = record {
-    begins = begins-push first (entries ++ between ∷ []) last front.begins (begins-last first entries last back.begins);
-    groups = each_push IsWellGrouped before_last last front.groups (each_last IsWellGrouped (first ∷ entries) last back.groups);
-    rises = rises;
-    closed = closed;
-  }
+  pub goes_on : (more : List Entry) → IsLawful (entries ++ between ∷ more) → IsLawful (entries ++ last ∷ []) → IsLawful ((entries ++ between ∷ []) ++ last ∷ [])
+  goes_on more table mine =
+      let cut : entries ++ between ∷ more ≡ (entries ++ between ∷ []) ++ more = sym (append_assoc entries (between ∷ []) more) in
+      let whole = subst IsLawful cut table in
+      let front = lawful-front (entries ++ between ∷ []) more whole (Begins-front (entries ++ between ∷ []) more whole.begins) in
+      let later = is_later entries last mine.begins (λ has. apart.protocol (first_again entries last between more mine.begins has table.begins)) in
+      let begun = has_begun entries last mine.begins later in
+      let is : entries ++ between ∷ [] ≡ begun.first ∷ (begun.others ++ between ∷ []) = ap (λ (es : List Entry). es ++ between ∷ []) begun.is in
+      let kept = follows_keeps begun.first (begun.others ++ between ∷ []) last (subst IsLawful is front) later (subst (λ (es : List Entry). Follows es last) is (follows_on front (lawful_follows entries last mine))) in
+      subst (λ (es : List Entry). IsLawful (es ++ last ∷ [])) (sym is) kept

@@ -1,5 +1,5 @@
 -- What the answers of appends and closes tell of the table that they leave, and that it stays so while the table grows.
-use Rattle.std.proofs.Common.{◌≡◌, ℕ, zero, suc, ◌<◌, ◌≤◌, Bool, true, eqb, ltb, List, [], ◌∷◌, ◌++◌, length, slice_get, Option, Some, None, All, Contains, refl, sym, ap, subst, ◌∙◌, append_assoc, arith, inl, inr}
+use Rattle.std.proofs.Common.{◌≡◌, ℕ, zero, suc, ◌<◌, ◌≤◌, Bool, true, eqb, ltb, List, [], ◌∷◌, ◌++◌, length, map, slice_get, Option, Some, None, All, Contains, refl, sym, ap, subst, ◌∙◌, append_assoc, arith, inl, inr}
 use Rattle.std.specs.Prelude.{bytes_eq}
 use Rattle.std.specs.List.{AllByRecursion, flat_map, list_any}
 use Rattle.std.proofs.lemmas.List.Concat.{flat_map-append}
@@ -7,16 +7,16 @@ use Rattle.std.proofs.lemmas.Bool.{false≢true, cases_Bool, eqb-true, eqb-false
 use Rattle.std.proofs.lemmas.Slice.Eq.{bytes_eq-Decides}
 use Rattle.std.proofs.lemmas.List.{append-nil}
 use Rattle.std.proofs.lemmas.List.Elements.{All-contains, All-contains_itself, All-filter, Contains-append_cases, Contains-append_left, Contains-push, filter_passes}
-use Rattle.row_core.specs.Rows.{Row, same_rows}
-use Rattle.table_model.specs.Table.{Batch, Entry, creation, group, close, closes_of, batches, batches_by, numbers_by, last_item, last_batch, is_stream_closed}
-use Rattle.table_model.specs.Appends.{appended, appended_new, appended_behind, with_batch, closing, with_close, TellsAppend, TellsClose}
-use Rattle.table_model.specs.Lawful.{NoCreation, BeginsWithCreation, Rises, IsWellGrouped, IsLawful}
+use Rattle.row_core.specs.Rows.{Row}
+use Rattle.table_model.specs.Table.{Batch, Told, Entry, creation, group, close, closes_of, tells, told_of, batches, told_by, numbers_by, last_item, last_told, is_stream_closed}
+use Rattle.table_model.specs.Appends.{are_rows, appended, appended_new, appended_behind, with_batch, closing, with_close, TellsAppend, TellsClose}
+use Rattle.table_model.specs.Lawful.{Begins, IsLater, Rises, IsLawful}
 use Rattle.table_model.specs.declared.table.AppendAnswer.{AppendAnswer}
 use Rattle.table_model.specs.declared.table.AppendAnswer.TheVariants.{Committed, Already, Stale, Differs, StreamClosed}
 use Rattle.table_model.specs.declared.table.Closing.{Closing}
 use Rattle.table_model.specs.declared.table.Closing.TheVariants.{Closed, AlreadyClosed}
 use Rattle.row_core.proofs.Callers.{same_rows-is}
-use Rattle.table_model.proofs.Batches.{batches-append, numbers_by-append, last_some, last_number, IsAbove, Rises-front, all_below}
+use Rattle.table_model.proofs.Batches.{batches-append, numbers_by-append, told-batches, last_some, last_number, IsAbove, Rises-front, all_below}
 
 -- ---- offsets and members of a list
 
@@ -29,22 +29,49 @@ at_the_front [] ys k x e = absurd cc
 at_the_front (y ∷ xs) ys zero x e = e
 at_the_front (y ∷ xs) ys (suc k) x e = at_the_front xs ys k x e
 
-none_behind : {A : Type 0} (xs ys : List A) → xs ++ ys ≡ [] → (xs ≡ []) × (ys ≡ [])
+pub Contains-map : {A B : Type 0} (f : A → B) (xs : List A) (x : A) → Contains xs x → Contains (map f xs) (f x)
+Contains-map f [] x among = absurd (omega (arith, among.1))
+Contains-map f (y ∷ xs) x (zero, lt, is) = (zero, omega arith, ap f is)
+Contains-map f (y ∷ xs) x (suc k, lt, is) = let on = Contains-map f xs x (k, omega (arith, lt), is) in (suc on.0, omega (arith, on.1), on.2)
+
+pub none_behind : {A : Type 0} (xs ys : List A) → xs ++ ys ≡ [] → (xs ≡ []) × (ys ≡ [])
 none_behind [] ys e = (refl, e)
 none_behind (x ∷ xs) ys e = absurd cc
 
 -- ---- what the tests of an append find
 
--- the application's last batch is one of the table
-pub last_stands : (application : List ℕ) (entries : List Entry) (c : Batch) → last_batch application entries ≡ Some c → Contains (batches entries) c × (c.application ≡ application)
-last_stands application entries c is =
-    let own : Batch → Bool = λ b. bytes_eq b.application application in
-    let all = batches entries in
-    let cut = last_some (batches_by application entries) c is in
-    let among : Contains (batches_by application entries) c = subst (λ (bs : List Batch). Contains bs c) (sym cut.1) (Contains-push cut.0 c) in
-    let stands = All-contains (Contains all) (batches_by application entries) c (All-filter own (Contains all) all (All-contains_itself all)) among in
-    let named : own c ≡ true = All-contains (λ b. own b ≡ true) (batches_by application entries) c (filter_passes own all) among in
-    (stands, (bytes_eq-Decides c.application application).0 named)
+last_among : (application : List ℕ) (entries : List Entry) (t : Told) → last_told application entries ≡ Some t → Contains (told_by application entries) t
+last_among application entries t is = let cut = last_some (told_by application entries) t is in subst (λ (ts : List Told). Contains ts t) (sym cut.1) (Contains-push cut.0 t)
+
+-- and so is its number
+last_number_stands : (application : List ℕ) (entries : List Entry) (t : Told) → last_told application entries ≡ Some t → Contains (numbers_by application entries) t.number
+last_number_stands application entries t is = Contains-map (λ (u : Told). u.number) (told_by application entries) t (last_among application entries t is)
+
+-- what is told last of an application is told in the table
+pub last_stands : (application : List ℕ) (entries : List Entry) (t : Told) → last_told application entries ≡ Some t → Contains (flat_map tells entries) t × (t.application ≡ application)
+last_stands application entries t is =
+    let own : Told → Bool = λ u. bytes_eq u.application application in
+    let all = flat_map tells entries in
+    let among = last_among application entries t is in
+    let stands = All-contains (Contains all) (told_by application entries) t (All-filter own (Contains all) all (All-contains_itself all)) among in
+    let named : own t ≡ true = All-contains (λ u. own u ≡ true) (told_by application entries) t (filter_passes own all) among in
+    (stands, (bytes_eq-Decides t.application application).0 named)
+
+-- of one batch alone is told what it tells
+told_is : (b c : Batch) → told_of b ≡ told_of c → b ≡ c
+told_is b c e =
+    let told : Some b.rows ≡ Some c.rows = ap (λ (t : Told). t.rows) e in
+    let rows : b.rows ≡ c.rows = cc in
+    λ i. record { application = (e i).application; number = (e i).number; rows = rows i }
+
+batch_among : (bs : List Batch) (b : Batch) → Contains (map told_of bs) (told_of b) → Contains bs b
+batch_among [] b among = absurd (omega (arith, among.1))
+batch_among (c ∷ bs) b (zero, lt, is) = (0, omega arith, told_is c b is)
+batch_among (c ∷ bs) b (suc k, lt, is) = let on = batch_among bs b (k, omega (arith, lt), is) in (suc on.0, omega (arith, on.1), on.2)
+
+-- a batch stands whose number is told with its rows
+pub batch_of_told : (entries : List Entry) (b : Batch) → Contains (flat_map tells entries) (told_of b) → Contains (batches entries) b
+batch_of_told entries b told = batch_among (batches entries) b (subst (λ (ts : List Told). Contains ts (told_of b)) (told-batches entries) told)
 
 -- a list whose pieces together have y, cut at the one that has it
 pub record IsCut {A B : Type 0} (f : A → List B) (xs : List A) (y : B) : Type 0 where
@@ -89,23 +116,31 @@ new_tells b entries above =
       | inr fresh ↦ rw fresh (group (b ∷ []), at_the_end entries (group (b ∷ [])), (0, omega arith, refl))
     ]
 
-behind_tells : (b : Batch) (entries : List Entry) (before : Option Batch) → last_batch b.application entries ≡ before → TellsAppend (appended_behind b entries before) b (with_batch (appended_behind b entries before) b entries)
+-- where the rows that are told are these
+pub rows_are : (rows : List Row) (told : Option (List Row)) → are_rows rows told ≡ true → told ≡ Some rows
+rows_are rows None e = absurd (false≢true e)
+rows_are rows (Some others) e = ap (λ (rs : List Row). Some rs) (sym ((same_rows-is rows others).0 e))
+
+pub rows_are_themselves : (rows : List Row) → are_rows rows (Some rows) ≡ true
+rows_are_themselves rows = (same_rows-is rows rows).1 refl
+
+behind_tells : (b : Batch) (entries : List Entry) (before : Option Told) → last_told b.application entries ≡ before → TellsAppend (appended_behind b entries before) b (with_batch (appended_behind b entries before) b entries)
 behind_tells b entries None is = new_tells b entries (rw (last_number b.application entries, is) tt)
 behind_tells b entries (Some before) is =
     let found = last_stands b.application entries before is in
-    let named : before ≡ record b { number = before.number; rows = before.rows } = λ i. record { application = found.1 i; number = before.number; rows = before.rows } in
-    let stands : Contains (batches entries) (record b { number = before.number; rows = before.rows }) = subst (λ (c : Batch). Contains (batches entries) c) named found.0 in
+    let named : before ≡ record { application = b.application; number = before.number; rows = before.rows } = λ i. record { application = found.1 i; number = before.number; rows = before.rows } in
+    let stands : Contains (flat_map tells entries) (record { application = b.application; number = before.number; rows = before.rows }) = subst (λ (t : Told). Contains (flat_map tells entries) t) named found.0 in
     elim (cases_Bool (ltb b.number before.number)) [
-      | inl below ↦ rw below (ltb-true b.number before.number below, before.rows, stands)
+      | inl below ↦ rw below (ltb-true b.number before.number below, last_number_stands b.application entries before is)
       | inr over ↦ elim (cases_Bool (eqb b.number before.number)) [
         | inl equal ↦
             let same : b.number ≡ before.number = eqb-true b.number before.number equal in
-            let own : Contains (batches entries) (record b { rows = before.rows }) = subst (λ (n : ℕ). Contains (batches entries) (record b { number = n; rows = before.rows })) (sym same) stands in
-            elim (cases_Bool (same_rows b.rows before.rows)) [
+            let own : Contains (flat_map tells entries) (record { application = b.application; number = b.number; rows = before.rows }) =
+            subst (λ (n : ℕ). Contains (flat_map tells entries) (record { application = b.application; number = n; rows = before.rows })) (sym same) stands in
+            elim (cases_Bool (are_rows b.rows before.rows)) [
               | inl alike ↦
-                  let rows_are : before.rows ≡ b.rows = sym ((same_rows-is b.rows before.rows).0 alike) in
-                  rw (over, equal, alike) (refl, subst (λ (rs : List Row). Contains (batches entries) (record b { rows = rs })) rows_are own)
-              | inr differ ↦ rw (over, equal, differ) (before.rows, λ e. false≢true (sym differ ∙ (same_rows-is b.rows before.rows).1 (sym e)), own)
+                  rw (over, equal, alike) (refl, subst (λ (rs : Option (List Row)). Contains (flat_map tells entries) (record { application = b.application; number = b.number; rows = rs })) (rows_are b.rows before.rows alike) own)
+              | inr differ ↦ rw (over, equal, differ) (before.rows, λ e. false≢true (sym differ ∙ ap (λ (rs : Option (List Row)). are_rows b.rows rs) e ∙ rows_are_themselves b.rows), own)
             ]
         | inr above ↦
             let least : before.number ≤ b.number = ltb-false b.number before.number over in
@@ -116,7 +151,7 @@ behind_tells b entries (Some before) is =
     ]
 
 pub append_tells : (b : Batch) (entries : List Entry) → TellsAppend (appended b entries) b (with_batch (appended b entries) b entries)
-append_tells b entries = behind_tells b entries (last_batch b.application entries) refl
+append_tells b entries = behind_tells b entries (last_told b.application entries) refl
 
 pub close_tells : (application : List ℕ) (entries : List Entry) → TellsClose (closing application entries) application (with_close application entries)
 close_tells application entries =
@@ -137,13 +172,13 @@ new_version b version entries e =
       | inr fresh ↦ let is : Committed (length entries) ≡ Committed version = rw fresh at e in committed_is (length entries) version is
     ]
 
-behind_version : (b : Batch) (version : ℕ) (entries : List Entry) (before : Option Batch) → appended_behind b entries before ≡ Committed version → version ≡ length entries
+behind_version : (b : Batch) (version : ℕ) (entries : List Entry) (before : Option Told) → appended_behind b entries before ≡ Committed version → version ≡ length entries
 behind_version b version entries None e = new_version b version entries e
 behind_version b version entries (Some before) e =
     elim (cases_Bool (ltb b.number before.number)) [
       | inl below ↦ let no : Stale before.number ≡ Committed version = rw below at e in absurd cc
       | inr over ↦ elim (cases_Bool (eqb b.number before.number)) [
-        | inl equal ↦ elim (cases_Bool (same_rows b.rows before.rows)) [
+        | inl equal ↦ elim (cases_Bool (are_rows b.rows before.rows)) [
           | inl alike ↦ let no : Already b.number ≡ Committed version = rw (over, equal, alike) at e in absurd cc
           | inr differ ↦ let no : Differs ≡ Committed version = rw (over, equal, differ) at e in absurd cc
         ]
@@ -152,7 +187,7 @@ behind_version b version entries (Some before) e =
     ]
 
 pub next_batch : (b : Batch) (version : ℕ) (entries : List Entry) → appended b entries ≡ Committed version → (version ≡ length entries) × (with_batch (appended b entries) b entries ≡ entries ++ group (b ∷ []) ∷ [])
-next_batch b version entries e = (behind_version b version entries (last_batch b.application entries) e, ap (λ (a : AppendAnswer). with_batch a b entries) e)
+next_batch b version entries e = (behind_version b version entries (last_told b.application entries) e, ap (λ (a : AppendAnswer). with_batch a b entries) e)
 
 pub next_close : (application : List ℕ) (version : ℕ) (entries : List Entry) → closing application entries ≡ Closed version → (version ≡ length entries) × (with_close application entries ≡ entries ++ close application ∷ [])
 next_close application version entries e =
@@ -166,33 +201,28 @@ next_close application version entries e =
 
 -- ---- the table that another one grew from
 
-NoCreation-front : (entries more : List Entry) → NoCreation (entries ++ more) → NoCreation entries
-NoCreation-front [] more none = tt
-NoCreation-front (creation ∷ entries) more none = none
-NoCreation-front (group bs ∷ entries) more none = NoCreation-front entries more none
-NoCreation-front (close application ∷ entries) more none = NoCreation-front entries more none
-
-begins-front : (entries more : List Entry) → BeginsWithCreation (entries ++ more) → BeginsWithCreation entries
-begins-front [] more begins = tt
-begins-front (creation ∷ entries) more begins = NoCreation-front entries more begins
-begins-front (group bs ∷ entries) more begins = begins
-begins-front (close application ∷ entries) more begins = begins
-
 each_front : {A : Type 0} (P : A → Type 0) (xs ys : List A) → AllByRecursion P (xs ++ ys) → AllByRecursion P xs
 each_front P [] ys all = tt
 each_front P (x ∷ xs) ys all = (all.0, each_front P xs ys all.1)
 
--- no batch stands behind a close, not even in what the table grew by
+-- a front of a table that begins with its creation has begun
+pub Begins-front : (entries more : List Entry) → Begins (entries ++ more) → Begins entries
+Begins-front [] more begins = tt
+Begins-front (creation ∷ entries) more begins = each_front IsLater entries more begins
+Begins-front (group bs ∷ entries) more begins = begins
+Begins-front (close application ∷ entries) more begins = begins
+
+-- no number is told behind a close, not even in what the table grew by
 none_grown : (application : List ℕ) (entries more before after : List Entry) (entry : Entry) → IsLawful (entries ++ more) → entries ≡ before ++ entry ∷ after → Contains (closes_of entry) application
-    → (numbers_by application (entry ∷ after) ≡ []) × (numbers_by application more ≡ [])
+    → (numbers_by application after ≡ []) × (numbers_by application more ≡ [])
 none_grown application entries more before after entry lawful is closes =
     let at : entries ++ more ≡ before ++ entry ∷ (after ++ more) = ap (λ (es : List Entry). es ++ more) is ∙ append_assoc before (entry ∷ after) more in
-    none_behind (numbers_by application (entry ∷ after)) (numbers_by application more) (sym (numbers_by-append application (entry ∷ after) more) ∙ lawful.closed application before (after ++ more) entry at closes)
+    none_behind (numbers_by application after) (numbers_by application more) (sym (numbers_by-append application after more) ∙ lawful.closed application before (after ++ more) entry at closes)
 
-pub lawful-front : (entries more : List Entry) → IsLawful (entries ++ more) → IsLawful entries
-lawful-front entries more lawful = record {
-  begins = begins-front entries more lawful.begins;
-  groups = each_front IsWellGrouped entries more lawful.groups;
+pub lawful-front : (entries more : List Entry) → IsLawful (entries ++ more) → Begins entries → IsLawful entries
+lawful-front entries more lawful begins = record {
+  begins = begins;
+  suits = λ before after entry is. lawful.suits before (after ++ more) entry (ap (λ (es : List Entry). es ++ more) is ∙ append_assoc before (entry ∷ after) more);
   rises = λ application. Rises-front (numbers_by application entries) (numbers_by application more) (subst Rises (numbers_by-append application entries more) (lawful.rises application));
   closed = λ application before after entry is closes. (none_grown application entries more before after entry lawful is closes).0;
 }
@@ -201,6 +231,13 @@ lawful-front entries more lawful = record {
 
 pub batch_lasts : (b : Batch) (entries more : List Entry) → Contains (batches entries) b → Contains (batches (entries ++ more)) b
 batch_lasts b entries more stands = subst (λ (bs : List Batch). Contains bs b) (sym (batches-append entries more)) (Contains-append_left (batches entries) (batches more) b stands)
+
+-- what is told once stays told
+told_lasts : (t : Told) (entries more : List Entry) → Contains (flat_map tells entries) t → Contains (flat_map tells (entries ++ more)) t
+told_lasts t entries more stands = subst (λ (ts : List Told). Contains ts t) (sym (flat_map-append tells entries more)) (Contains-append_left (flat_map tells entries) (flat_map tells more) t stands)
+
+number_lasts : (application : List ℕ) (n : ℕ) (entries more : List Entry) → Contains (numbers_by application entries) n → Contains (numbers_by application (entries ++ more)) n
+number_lasts application n entries more stands = subst (λ (ns : List ℕ). Contains ns n) (sym (numbers_by-append application entries more)) (Contains-append_left (numbers_by application entries) (numbers_by application more) n stands)
 
 -- a close that stands stays
 close_lasts_at : (application : List ℕ) (entries more : List Entry) → Contains (flat_map closes_of entries) application → Contains (flat_map closes_of (entries ++ more)) application
@@ -214,13 +251,13 @@ still_below b entries more stands below lawful =
     let cut = cut_at closes_of entries b.application stands in
     let none : numbers_by b.application more ≡ [] = (none_grown b.application entries more cut.before cut.after cut.one lawful cut.is cut.has).1 in
     let same : numbers_by b.application (entries ++ more) ≡ numbers_by b.application entries = numbers_by-append b.application entries more ∙ rw none (append-nil (numbers_by b.application entries)) in
-    subst (λ (ns : List ℕ). All (λ n. n < b.number) ns) (sym same) (below (lawful-front entries more lawful))
+    subst (λ (ns : List ℕ). All (λ n. n < b.number) ns) (sym same) (below (lawful-front entries more lawful (Begins-front entries more lawful.begins)))
 
 pub append_lasts : (answer : AppendAnswer) (b : Batch) (entries more : List Entry) → TellsAppend answer b entries → TellsAppend answer b (entries ++ more)
 append_lasts (Committed version) b entries more told = (told.0, at_the_front entries more version told.0 told.1, told.2)
-append_lasts (Already number) b entries more told = (told.0, batch_lasts b entries more told.1)
-append_lasts (Stale number) b entries more told = (told.0, told.1, batch_lasts (record b { number = number; rows = told.1 }) entries more told.2)
-append_lasts Differs b entries more told = (told.0, told.1, batch_lasts (record b { rows = told.0 }) entries more told.2)
+append_lasts (Already number) b entries more told = (told.0, told_lasts (told_of b) entries more told.1)
+append_lasts (Stale number) b entries more told = (told.0, number_lasts b.application number entries more told.1)
+append_lasts Differs b entries more told = (told.0, told.1, told_lasts (record { application = b.application; number = b.number; rows = told.0 }) entries more told.2)
 append_lasts StreamClosed b entries more told =
     (close_lasts_at b.application entries more told.0, still_below b entries more told.0 told.1)
 

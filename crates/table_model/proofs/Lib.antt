@@ -1,10 +1,13 @@
 pub mod Batches
 pub mod Between
 pub mod Facts
+pub mod Grouped
 pub mod Grown
 pub mod Handed
 pub mod Kept
 pub mod LawfulLemmas
+pub mod Live
+pub mod LivePaths
 pub mod PartLemmas
 pub mod Places
 pub mod Read

@@ -1,5 +1,6 @@
 pub mod Appends
 pub mod Lawful
+pub mod Live
 pub mod Reads
 pub mod Resumed
 pub mod Table

@@ -3,17 +3,17 @@
 ghost use Rattle.std.specs.Prelude.{◌≡◌, ℕ, List, [], ◌∷◌, ◌++◌, length, Contains};
 ghost use Rattle.table_model.specs.Table.{Batch, Entry, group, close, batches};
 ghost use Rattle.table_model.specs.Appends.{appended, with_batch, closing, with_close, TellsAppend, TellsClose};
-ghost use Rattle.table_model.specs.Lawful.{IsLawful};
+ghost use Rattle.table_model.specs.Lawful.{Begins, IsLawful};
 ghost use Rattle.table_model.specs.declared.table.AppendAnswer.{AppendAnswer};
 ghost use Rattle.table_model.specs.declared.table.AppendAnswer.TheVariants.{Committed};
 ghost use Rattle.table_model.specs.declared.table.Closing.{Closing};
 ghost use Rattle.table_model.specs.declared.table.Closing.TheVariants.{Closed};
 
-/// What an append or a close answers is true of the table that it leaves: the version that is told holds the batch or
-/// the close; a batch that is there already stands with its number and rows; where the number is stale, a batch of the
-/// application with the greater number that is told stands; where the rows differ, one with this number and other rows;
-/// and where the stream was closed its close stands, and each number of the application is below the batch's if the
-/// table is lawful.
+/// What an append or a close answers is true of the table that it leaves: the version that is answered tells the batch,
+/// or closes the stream; a batch that is there already is told with its number and rows; where the number is stale, the
+/// greater number that is answered is told of the application; where the rows differ, this number is told with other
+/// rows, or with none; and where the stream was closed its close stands, and each number of the application is below
+/// the batch's if the table is lawful.
 pub fn answers_are_facts()
     ensures append { (b : Batch) (entries : List Entry) → TellsAppend (appended b entries) b (with_batch (appended b entries) b entries) }
     ensures close { (application : List ℕ) (entries : List Entry) → TellsClose (closing application entries) application (with_close application entries) }
@@ -34,7 +34,7 @@ pub fn facts_last()
     ensures stands { (b : Batch) (entries more : List Entry) → Contains (batches entries) b → Contains (batches (entries ++ more)) b }
 {}
 
-/// What a lawful table grew from is lawful.
+/// What a lawful table grew from is lawful, where it has begun.
 pub fn a_lawful_table_was_lawful()
-    ensures { (entries more : List Entry) → IsLawful (entries ++ more) → IsLawful entries }
+    ensures { (entries more : List Entry) → IsLawful (entries ++ more) → Begins entries → IsLawful entries }
 {}

@@ -1,15 +1,16 @@
 //! Laws of the plain table, each a function with an empty body whose contract is the law.
 
-ghost use Rattle.std.specs.Prelude.{◌≡◌, ◌↔◌, ◌<◌, ◌≤◌, ◌-◌, ◌⊎◌, IsTrue, ℕ, List, [], ◌∷◌, ◌++◌, length, take, drop, true, Some};
-ghost use Rattle.std.specs.List.{flat_map};
+ghost use Rattle.std.specs.Prelude.{◌≡◌, ◌≢◌, ◌↔◌, ◌<◌, ◌≤◌, ◌-◌, ◌⊎◌, IsTrue, ℕ, List, [], ◌∷◌, ◌++◌, length, map, take, drop, true, Some};
+ghost use Rattle.std.specs.List.{AllByRecursion, flat_map};
 ghost use Rattle.row_core.specs.Rows.{Row};
-ghost use Rattle.table_model.specs.Table.{Batch, Entry, creation, batches, last_batch, rows};
+ghost use Rattle.table_model.specs.Table.{Batch, Entry, creation, group, batches, told_of, last_told, rows};
 ghost use Rattle.table_model.specs.Appends.{appended, with_batch, with_close};
 ghost use Rattle.table_model.specs.Reads.{read, handed, position, is_offset, end};
 ghost use Rattle.table_model.specs.Resumed.{reads_on, growth, beginning};
-ghost use Rattle.table_model.specs.Lawful.{IsLawful};
+ghost use Rattle.table_model.specs.Lawful.{AreDifferent, Follows, IsLater, IsLawful};
+ghost use Rattle.table_model.specs.Live.{SameCounts, file_rows, live, newest_from};
 ghost use Rattle.table_model.specs.declared.reading.Offset.{Offset};
-ghost use Rattle.table_model.specs.declared.table.AppendAnswer.TheVariants.{Already};
+ghost use Rattle.table_model.specs.declared.table.AppendAnswer.TheVariants.{Already, Committed};
 
 /// A table that was just created is lawful.
 pub fn a_new_table_is_lawful()
@@ -26,11 +27,24 @@ pub fn closes_keep_lawful()
     ensures { (application : List ℕ) (first : Entry) (entries : List Entry) → IsLawful (first ∷ entries) → IsLawful (with_close application (first ∷ entries)) }
 {}
 
+/// A later entry that follows may be put behind a lawful table that has a version, of whatever kind it is; and what may
+/// be put follows.
+pub fn an_entry_that_follows_keeps_lawful()
+    ensures enough { (first : Entry) (entries : List Entry) (entry : Entry) → IsLawful (first ∷ entries) → IsLater entry → Follows (first ∷ entries) entry → IsLawful ((first ∷ entries) ++ entry ∷ []) }
+    ensures needed { (entries : List Entry) (entry : Entry) → IsLawful (entries ++ entry ∷ []) → Follows entries entry }
+{}
+
+/// Batches of different applications, each of which an append commits, follow together as one group.
+pub fn new_batches_follow_as_a_group()
+    ensures { (entries : List Entry) (bs : List Batch) → IsLawful entries → bs ≢ [] → AreDifferent (map (λ b. b.application) bs) → AllByRecursion (λ b. appended b entries ≡ Committed (length entries)) bs
+        → Follows entries (group bs) }
+{}
+
 /// The last batch of an application stands already when it is handed in again, whatever others wrote behind it and
 /// also behind its stream's close; and then the table stays as it was.
 pub fn a_committed_batch_stands_already()
-    ensures answer { (b : Batch) (entries : List Entry) → last_batch b.application entries ≡ Some b → appended b entries ≡ Already b.number }
-    ensures left { (b : Batch) (entries : List Entry) → last_batch b.application entries ≡ Some b → with_batch (appended b entries) b entries ≡ entries }
+    ensures answer { (b : Batch) (entries : List Entry) → last_told b.application entries ≡ Some (told_of b) → appended b entries ≡ Already b.number }
+    ensures left { (b : Batch) (entries : List Entry) → last_told b.application entries ≡ Some (told_of b) → with_batch (appended b entries) b entries ≡ entries }
 {}
 
 /// In a lawful table no batch stands twice: of two batches of one application, the later one has the greater number.
@@ -42,6 +56,19 @@ pub fn numbers_stand_once()
 /// A table's rows are those of its batches, one batch behind the other.
 pub fn rows_are_those_of_the_batches()
     ensures { (entries : List Entry) → rows entries ≡ flat_map (λ b. b.rows) (batches entries) }
+{}
+
+/// The files that a lawful log leaves have the table's rows, each as often; and each entry that may be put keeps it so.
+pub fn live_files_have_the_rows()
+    ensures all { (entries : List Entry) → IsLawful entries → SameCounts (file_rows (live entries)) (rows entries) }
+    ensures kept { (entries : List Entry) (entry : Entry) → IsLawful (entries ++ entry ∷ []) → SameCounts (file_rows (live entries)) (rows entries)
+        → SameCounts (file_rows (live (entries ++ entry ∷ []))) (rows (entries ++ entry ∷ [])) }
+{}
+
+/// No two files that a lawful log leaves have one path, and they are those that the newest action of each path leaves.
+pub fn no_path_is_left_twice()
+    ensures newest { (entries : List Entry) → IsLawful entries → newest_from [] entries ≡ live entries }
+    ensures once { (entries : List Entry) → IsLawful entries → AreDifferent (map (λ f. f.path) (live entries)) }
 {}
 
 /// What a read hands out are the table's rows from its offset up to the next one, in the order of the log: `max` of

@@ -18,9 +18,10 @@ pub use answers::{
 pub use lawful::is_lawful;
 pub use laws::{
     a_committed_batch_stands_already, a_new_table_is_lawful,
-    a_read_hands_the_rows_between_its_offsets, appends_keep_lawful, closes_keep_lawful,
-    numbers_stand_once, offsets_stay, reads_to_the_end_hand_out_all,
-    resumed_reads_hand_out_the_log, rows_are_those_of_the_batches,
+    a_read_hands_the_rows_between_its_offsets, an_entry_that_follows_keeps_lawful,
+    appends_keep_lawful, closes_keep_lawful, live_files_have_the_rows,
+    new_batches_follow_as_a_group, no_path_is_left_twice, numbers_stand_once, offsets_stay,
+    reads_to_the_end_hand_out_all, resumed_reads_hand_out_the_log, rows_are_those_of_the_batches,
 };
 pub use parts::{
     a_part_from_the_beginning_is_a_front, a_part_is_the_only_one, a_read_comes_further,

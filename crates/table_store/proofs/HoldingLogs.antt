@@ -19,6 +19,7 @@ use Rattle.table_store.specs.Holds.{Stands, FileStands, FilesStand, HoldsFrom, H
 use Rattle.table_store.specs.Groups.{numbers, added, new_file, new_files, AreFilesOf}
 use Rattle.table_store.specs.Logs.{LogFrom, IsLog, AreBatchesOf, AreBatches, AreRowsOf, AreRows}
 use Rattle.table_model.specs.Table.{Batch, Entry, creation, group, close, batches_of, entry_rows, batches, rows}
+use Rattle.table_store.proofs.GivenFiles.{batch_files, given_batches}
 use Rattle.table_store.proofs.HoldingEnds.{none_at_end, LogFrom-first}
 use Rattle.table_store.proofs.HoldingOne.{named, one_object, one_file, one_commit}
 
@@ -65,7 +66,7 @@ AreBatchesOf-entry : (objects : Objects) (schema : Schema) (entry : Entry) (behi
     → FilesStand objects schema entry → AreBatchesOf objects schema ns behind → AreBatchesOf objects schema (numbers beside ++ ns) (batches_of entry ++ behind)
 AreBatchesOf-entry objects schema entry behind beside ns stand files told =
     subst (λ (ms : List (List ℕ × ℕ)). AreBatchesOf objects schema (ms ++ ns) (batches_of entry ++ behind)) (sym (numbers_of_entry schema entry beside stand))
-    (AreBatchesOf-named objects schema (batches_of entry) behind ns files told)
+    (AreBatchesOf-named objects schema (batches_of entry) behind ns (batch_files objects schema entry files) told)
 
 -- ---- what actions tell of an entry's rows
 
@@ -109,7 +110,7 @@ AreRowsOf-entry objects schema creation behind beside paths stand files told = r
 AreRowsOf-entry objects schema (group bs) behind beside paths stand files told =
     let new : new_files beside ≡ paths_of (added beside) = new_files-added beside (AreFilesOf-new (numbers beside) (added beside) stand.files) in
     let are : AreFilesOf (map named bs) (added beside) = subst (λ (ns : List (List ℕ × ℕ)). AreFilesOf ns (added beside)) stand.numbered stand.files in
-    subst (λ (ps : List PathAndKey). AreRowsOf objects schema (ps ++ paths) (entry_rows (group bs) ++ behind)) (sym new) (AreRowsOf-named objects schema bs (added beside) paths behind are files told)
+    subst (λ (ps : List PathAndKey). AreRowsOf objects schema (ps ++ paths) (entry_rows (group bs) ++ behind)) (sym new) (AreRowsOf-named objects schema bs (added beside) paths behind are (given_batches objects schema bs files.given) told)
 AreRowsOf-entry objects schema (close application) behind beside paths stand files told = rw stand.actions told
 
 -- ---- the log of the table
@@ -119,7 +120,7 @@ pub HoldsFrom-log : (objects : Objects) (schema : Schema) (version : ℕ) (entri
     → (log : List (List actions.Action)) × LogFrom objects version log × AreBatches objects schema log (batches entries) × AreRows objects schema log (rows entries)
 HoldsFrom-log objects schema version [] holds = ([], holds, tt, refl)
 HoldsFrom-log objects schema version (entry ∷ entries) holds =
-    let later = HoldsFrom-log objects schema (suc version) entries holds.2 in
+    let later = HoldsFrom-log objects schema (suc version) entries holds.3 in
     let made = holds.0.2.actions in
     let told = AreBatchesOf-entry objects schema entry (batches entries) (without_commit_info made) (flat_map numbers later.0) holds.0.2.stand holds.1 later.2 in
     let files = AreRowsOf-entry objects schema entry (rows entries) (without_commit_info made) (flat_map new_files later.0) holds.0.2.stand holds.1 later.3 in (

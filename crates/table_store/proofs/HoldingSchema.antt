@@ -8,7 +8,7 @@ use Rattle.schema_tree.specs.Reading.{schema_of}
 use Rattle.table_store.specs.Schema.{Schema}
 use Rattle.table_store.specs.Commits.{table_protocol, without_commit_info, IsCommitOf, IsCreation, StandFor}
 use Rattle.table_store.specs.Holds.{Holds}
-use Rattle.table_model.specs.Lawful.{BeginsWithCreation}
+use Rattle.table_model.specs.Lawful.{Begins}
 use Rattle.table_model.specs.Table.{Entry, creation, group, close}
 use Rattle.table_store.proofs.HoldingEnds.{none_at_end}
 use Rattle.table_store.proofs.HoldingOne.{group_no_creation, close_no_creation, one_object, one_list, one_log}
@@ -41,13 +41,13 @@ by_creation objects schema second entries (found ∷ others) p q =
     one_creation_of p.0.0 q.0.0 schema second found bytes p.0.2 q.0.2
 
 -- a table that begins with its creation has the schema of each table that the store holds
-pub one_schema : (objects : Objects) (schema second : Schema) (first : Entry) (entries others : List Entry) → BeginsWithCreation (first ∷ entries) → Holds objects schema (first ∷ entries) → Holds objects second others → schema ≡ second
+pub one_schema : (objects : Objects) (schema second : Schema) (first : Entry) (entries others : List Entry) → Begins (first ∷ entries) → Holds objects schema (first ∷ entries) → Holds objects second others → schema ≡ second
 one_schema objects schema second creation entries others begins p q = by_creation objects schema second entries others p q
 one_schema objects schema second (group bs) entries others begins p q = absurd begins
 one_schema objects schema second (close application) entries others begins p q = absurd begins
 
 -- a table that begins with its creation is the only one that the store holds
-pub only_table : (objects : Objects) (schema second : Schema) (entries others : List Entry) → BeginsWithCreation entries → Holds objects schema entries → Holds objects second others → entries ≡ others
+pub only_table : (objects : Objects) (schema second : Schema) (entries others : List Entry) → Begins entries → Holds objects schema entries → Holds objects second others → entries ≡ others
 only_table objects schema second [] [] begins p q = refl
 only_table objects schema second [] (found ∷ others) begins p q = absurd (none_at_end objects 0 q.0.0 p (omega arith) q.0.1)
 only_table objects schema second (entry ∷ entries) others begins p q =

@@ -12,16 +12,16 @@ use Rattle.store_core.specs.Names.{commit_name}
 use Rattle.table_store.specs.Schema.{Schema}
 use Rattle.table_store.specs.Commits.{without_commit_info, IsClose, StandFor}
 use Rattle.table_store.specs.Holds.{FilesStand, HoldsFrom, IsLawfulStore}
-use Rattle.table_model.specs.Lawful.{NoCreation, BeginsWithCreation, Rises, AreDifferent, IsWellGrouped, IsLawful}
+use Rattle.table_model.specs.Lawful as kinds
+use Rattle.table_model.specs.Lawful.{Begins, Suits, Rises, AreDifferent, IsLawful}
 use Rattle.table_store.specs.Groups.{numbers}
 use Rattle.table_store.specs.Logs.{LogFrom}
 use Rattle.table_store.specs.LawfulLogs.{IsLater, BeginsLog, numbers_of, HasLawfulLog}
-use Rattle.table_model.specs.Table.{Batch, Entry, creation, group, close, batches_of, batches, numbers_by}
-use Rattle.table_model.proofs.Callers.{Rises-tail, below_later}
+use Rattle.table_model.specs.Table.{Batch, Told, told_of, Entry, creation, group, close, batches_of, batches, numbers_by}
+use Rattle.table_model.proofs.Callers.{Rises-tail, below_later, each_suits, told_by-batches}
 use Rattle.table_store.proofs.HoldingEnds.{none_at_end, HoldsFrom-first, LogFrom-first}
 use Rattle.table_store.proofs.HoldingLogs.{HoldsFrom-log, numbers-without_commit_info, numbers_of_entry}
 use Rattle.table_store.proofs.HoldingOne.{named, one_object, one_commit, one_entry}
-use Rattle.table_model.proofs.Callers.{NoCreation-behind}
 
 -- ---- numbers of which each application's rise
 
@@ -70,6 +70,11 @@ different-from_rises (n ∷ ns) rises = (twice, different-from_rises ns (λ appl
 
 -- ---- a log that stands for entries
 
+-- and those that are told of it are, too
+numbers_by-named : (application : List ℕ) (entries : List Entry) → numbers_by application entries ≡ map (λ b. b.number) (filter (λ b. bytes_eq b.application application) (batches entries))
+numbers_by-named application entries =
+    ap (map (λ (t : Told). t.number)) (told_by-batches application entries) ∙ map-map (λ (t : Told). t.number) told_of (filter (λ (b : Batch). bytes_eq b.application application) (batches entries))
+
 module _ (objects : Objects) (schema : Schema) where
   -- commit by commit the actions are those of the entries, and the files of each entry stand
   abbrev pub AreMadeFor : List Entry → List (List actions.Action) → Type 0
@@ -86,7 +91,7 @@ module _ (objects : Objects) (schema : Schema) where
   made_for version (entry ∷ entries) (made ∷ log) p q =
       let bytes : p.0.0 ≡ q.0.0 = one_object objects (commit_name version) (commit_name version) _ _ p.0 q.0 refl in
       let same : p.0.2.actions ≡ made = one_commit q.0.0 p.0.2.actions made (subst (λ (t : List ℕ). IsCommit t p.0.2.actions) bytes p.0.2.commit) q.0.2 in
-      (subst (λ (m : List actions.Action). StandFor schema entry (without_commit_info m)) same p.0.2.stand, p.1, made_for (suc version) entries log p.2 q.1)
+      (subst (λ (m : List actions.Action). StandFor schema entry (without_commit_info m)) same p.0.2.stand, p.1, made_for (suc version) entries log p.3 q.1)
 
   -- the log has the numbers of the batches
   numbers_of_log : (entries : List Entry) (log : List (List actions.Action)) → AreMadeFor entries log → flat_map numbers log ≡ map named (batches entries)
@@ -99,36 +104,36 @@ module _ (objects : Objects) (schema : Schema) where
 
   -- an application has the same numbers in the log as in the table
   pub numbers_by_log : (application : List ℕ) (entries : List Entry) (log : List (List actions.Action)) → AreMadeFor entries log → numbers_of application (flat_map numbers log) ≡ numbers_by application entries
-  numbers_by_log application entries log p = ap (numbers_of application) (numbers_of_log entries log p) ∙ numbers_of-named application (batches entries)
+  numbers_by_log application entries log p = ap (numbers_of application) (numbers_of_log entries log p) ∙ numbers_of-named application (batches entries) ∙ sym (numbers_by-named application entries)
 
   -- ---- the log begins with the creation
 
   -- the numbers of a group's batches aren't none, and are of different applications
-  group_numbered : (bs : List Batch) (ns : List (List ℕ × ℕ)) → ns ≡ map named bs → IsWellGrouped (group bs) → (ns ≢ []) × AreDifferent (map (λ n. n.0) ns)
+  group_numbered : (bs : List Batch) (ns : List (List ℕ × ℕ)) → ns ≡ map named bs → Suits [] (group bs) → (ns ≢ []) × AreDifferent (map (λ n. n.0) ns)
   group_numbered [] ns is grouped = absurd (grouped.0 refl)
   group_numbered (b ∷ bs) ns is grouped =
       let applications : map (λ n. n.0) ns ≡ map (λ c. c.application) (b ∷ bs) = ap (map (λ (n : List ℕ × ℕ). n.0)) is ∙ map-map (λ (n : List ℕ × ℕ). n.0) named (b ∷ bs) in
       ((λ none. let no : map named (b ∷ bs) ≡ [] = sym is ∙ none in absurd cc), subst AreDifferent (sym applications) grouped.1)
 
   -- the commit of an entry that is no creation is a group, or a close
-  later_entry : (entry : Entry) (entries : List Entry) (beside : List actions.Action) → NoCreation (entry ∷ entries) → IsWellGrouped entry → StandFor schema entry beside → IsLater beside
-  later_entry creation entries beside none grouped stand = absurd none
-  later_entry (group bs) entries beside none grouped stand =
+  later_entry : (entry : Entry) (beside : List actions.Action) → kinds.IsLater entry → Suits [] entry → StandFor schema entry beside → IsLater beside
+  later_entry creation beside later grouped stand = absurd later
+  later_entry (group bs) beside later grouped stand =
       let numbered = group_numbered bs (numbers beside) stand.numbered grouped in
       inl (record { only = stand.only; some = numbered.0; different = numbered.1; files = stand.files })
-  later_entry (close application) entries beside none grouped stand = inr (application, stand)
+  later_entry (close application) beside later grouped stand = inr (application, stand)
 
-  -- where no entry is a creation, each commit is a group or a close
-  all_later : (entries : List Entry) (log : List (List actions.Action)) → NoCreation entries → AllByRecursion IsWellGrouped entries → AreMadeFor entries log
+  -- where each entry is a later one, each commit is a group or a close
+  all_later : (entries : List Entry) (log : List (List actions.Action)) → AllByRecursion kinds.IsLater entries → AllByRecursion (Suits []) entries → AreMadeFor entries log
       → AllByRecursion (λ made. IsLater (without_commit_info made)) log
-  all_later [] [] none grouped p = tt
-  all_later [] (made ∷ log) none grouped p = absurd p
-  all_later (entry ∷ entries) [] none grouped p = absurd p
-  all_later (entry ∷ entries) (made ∷ log) none grouped p =
-      (later_entry entry entries (without_commit_info made) none grouped.0 p.0, all_later entries log (NoCreation-behind entry entries none) grouped.1 p.2)
+  all_later [] [] later grouped p = tt
+  all_later [] (made ∷ log) later grouped p = absurd p
+  all_later (entry ∷ entries) [] later grouped p = absurd p
+  all_later (entry ∷ entries) (made ∷ log) later grouped p =
+      (later_entry entry (without_commit_info made) later.0 grouped.0 p.0, all_later entries log later.1 grouped.1 p.2)
 
   -- the log begins as the table does
-  begins_log : (entries : List Entry) (log : List (List actions.Action)) → BeginsWithCreation entries → AllByRecursion IsWellGrouped entries → AreMadeFor entries log → BeginsLog schema log
+  begins_log : (entries : List Entry) (log : List (List actions.Action)) → Begins entries → AllByRecursion (Suits []) entries → AreMadeFor entries log → BeginsLog schema log
   begins_log [] [] begins grouped p = tt
   begins_log [] (made ∷ log) begins grouped p = absurd p
   begins_log (creation ∷ entries) [] begins grouped p = absurd p
@@ -162,9 +167,9 @@ module _ (objects : Objects) (schema : Schema) where
       → log ≡ before ++ made ∷ after → IsClose application (without_commit_info made) → numbers_of application (flat_map numbers (made ∷ after)) ≡ []
   closed_log entries log lawful p application before after made at is_close =
       let here = within entries before made after (subst (AreMadeFor entries) at p) in
-      let is : here.entry ≡ close application = one_entry objects schema here.entry (close application) (without_commit_info made) here.stand is_close here.files tt in
+      let is : here.entry ≡ close application = one_entry objects schema here.entry (close application) (without_commit_info made) here.stand is_close here.files.given tt in
       let cut : entries ≡ here.front ++ close application ∷ here.back = here.parts ∙ ap (λ (e : Entry). here.front ++ e ∷ here.back) is in
-      let none : numbers_by application (close application ∷ here.back) ≡ [] = lawful.closed application here.front here.back (close application) cut (0, omega arith, refl) in
+      let none : numbers_by application here.back ≡ [] = lawful.closed application here.front here.back (close application) cut (0, omega arith, refl) in
       numbers_by_log application (here.entry ∷ here.back) (made ∷ after) here.behind ∙ ap (λ (e : Entry). numbers_by application (e ∷ here.back)) is ∙ none
 
 -- The log of a lawful store is lawful.
@@ -178,7 +183,7 @@ lawful_log objects store =
       told.0,
       told.1,
       record {
-        begins = begins_log objects store.schema store.entries told.0 store.lawful.begins store.lawful.groups made;
+        begins = begins_log objects store.schema store.entries told.0 store.lawful.begins (each_suits store.entries store.lawful.suits) made;
         files = (batches store.entries, told.2);
         once = different-from_rises (flat_map numbers told.0) rises;
         rises = rises;

@@ -10,11 +10,18 @@ use Rattle.table_store.specs.Groups.{numbers}
 use Rattle.table_store.specs.Holds.{FileStands, FilesStand, HoldsFrom, IsLawfulStore}
 use Rattle.table_store.specs.Logs.{LogFrom, AreBatchesOf}
 use Rattle.table_store.specs.LawfulLogs.{IsGroupCommit, IsLater, BeginsLog, IsLawfulLog, HasLawfulLog}
-use Rattle.table_model.specs.Lawful.{NoCreation, BeginsWithCreation, AreDifferent, IsWellGrouped, Rises}
+use Rattle.table_model.specs.Lawful as kinds
+use Rattle.table_model.specs.Lawful.{Begins, AreDifferent, Suits, Rises}
+use Rattle.table_model.proofs.Callers.{numbers_by-append, suits_each}
 use Rattle.table_model.specs.Table.{Batch, Entry, creation, group, close, closes_of, numbers_by}
+use Rattle.table_store.proofs.GivenFiles.{files_stand}
 use Rattle.table_store.proofs.HoldingLogs.{numbers-without_commit_info}
 use Rattle.table_store.proofs.HoldingOne.{named}
 use Rattle.table_store.proofs.LawfulLogLemmas.{AreMadeFor, numbers_by_log}
+
+none_later : {A : Type 0} (xs ys : List A) → xs ++ ys ≡ [] → ys ≡ []
+none_later [] ys none = none
+none_later (x ∷ xs) ys none = absurd cc
 
 module _ (objects : Objects) (schema : Schema) where
   -- ---- the batches of a commit
@@ -53,8 +60,8 @@ module _ (objects : Objects) (schema : Schema) where
     entry : Entry
     stand : StandFor schema entry (without_commit_info made)
     files : FilesStand objects schema entry
-    grouped : IsWellGrouped entry
-    later : (entries : List Entry) → NoCreation entries → NoCreation (entry ∷ entries)
+    suits : Suits [] entry
+    later : kinds.IsLater entry
 
   group_for : (made : List actions.Action) (bs : List Batch) → IsGroupCommit (without_commit_info made) → AreBatchesOf objects schema (numbers made) bs → LaterEntry made
   group_for made bs is told =
@@ -65,14 +72,14 @@ module _ (objects : Objects) (schema : Schema) where
       record {
         entry = group bs;
         stand = record { only = is.only; numbered = named_so; files = is.files };
-        files = files_told (numbers made) bs told;
-        grouped = (some, different);
-        later = λ entries none. none;
+        files = files_stand objects schema (group bs) (files_told (numbers made) bs told);
+        suits = (some, different);
+        later = tt;
       }
 
   later_entry : (made : List actions.Action) (bs : List Batch) → IsLater (without_commit_info made) → AreBatchesOf objects schema (numbers made) bs → LaterEntry made
   later_entry made bs (inl is) told = group_for made bs is told
-  later_entry made bs (inr is) told = record { entry = close is.0; stand = is.1; files = tt; grouped = tt; later = λ entries none. none }
+  later_entry made bs (inr is) told = record { entry = close is.0; stand = is.1; files = files_stand objects schema (close is.0) tt; suits = tt; later = tt }
 
   -- ---- the entries of the log
 
@@ -80,34 +87,34 @@ module _ (objects : Objects) (schema : Schema) where
   record Entries (Begin : List Entry → Type 0) (log : List (List actions.Action)) : Type 0 where
     entries : List Entry
     begins : Begin entries
-    groups : AllByRecursion IsWellGrouped entries
+    suits : AllByRecursion (Suits []) entries
     made : AreMadeFor objects schema entries log
 
   later_entries : (log : List (List actions.Action)) (bs : List Batch) → AllByRecursion (λ made. IsLater (without_commit_info made)) log → AreBatchesOf objects schema (flat_map numbers log) bs
-      → Entries NoCreation log
-  later_entries [] bs later told = record { entries = []; begins = tt; groups = tt; made = tt }
+      → Entries (AllByRecursion kinds.IsLater) log
+  later_entries [] bs later told = record { entries = []; begins = tt; suits = tt; made = tt }
   later_entries (made ∷ log) bs later told =
       let parts = split (numbers made) (flat_map numbers log) bs told in
       let first : LaterEntry made = later_entry made parts.0 later.0 parts.2 in
-      let behind : Entries NoCreation log = later_entries log parts.1 later.1 parts.3 in
+      let behind : Entries (AllByRecursion kinds.IsLater) log = later_entries log parts.1 later.1 parts.3 in
       record {
         entries = first.entry ∷ behind.entries;
-        begins = first.later behind.entries behind.begins;
-        groups = (first.grouped, behind.groups);
+        begins = (first.later, behind.begins);
+        suits = (first.suits, behind.suits);
         made = (first.stand, first.files, behind.made);
       }
 
   -- a log that begins as it should stands for entries that begin so
-  entries_for : (log : List (List actions.Action)) (bs : List Batch) → BeginsLog schema log → AreBatchesOf objects schema (flat_map numbers log) bs → Entries BeginsWithCreation log
-  entries_for [] bs begins told = record { entries = []; begins = tt; groups = tt; made = tt }
+  entries_for : (log : List (List actions.Action)) (bs : List Batch) → BeginsLog schema log → AreBatchesOf objects schema (flat_map numbers log) bs → Entries Begins log
+  entries_for [] bs begins told = record { entries = []; begins = tt; suits = tt; made = tt }
   entries_for (made ∷ log) bs begins told =
       let parts = split (numbers made) (flat_map numbers log) bs told in
-      let behind : Entries NoCreation log = later_entries log parts.1 begins.1 parts.3 in
+      let behind : Entries (AllByRecursion kinds.IsLater) log = later_entries log parts.1 begins.1 parts.3 in
       record {
         entries = creation ∷ behind.entries;
         begins = behind.begins;
-        groups = (tt, behind.groups);
-        made = (begins.0, tt, behind.made);
+        suits = (tt, behind.suits);
+        made = (begins.0, files_stand objects schema creation tt, behind.made);
       }
 
   -- the store of a log holds the entries that the log was made for
@@ -118,6 +125,7 @@ module _ (objects : Objects) (schema : Schema) where
   holds_for version (entry ∷ entries) (made ∷ log) p q = (
     (q.0.0, q.0.1, record { actions = made; commit = q.0.2; stand = p.0 }),
     p.1,
+    tt,
     holds_for (suc version) entries log p.2 q.1,
   )
 
@@ -148,11 +156,12 @@ module _ (objects : Objects) (schema : Schema) where
 
   -- no number of an application stands with or behind a close of its stream
   closed_entries : (entries : List Entry) (log : List (List actions.Action)) → IsLawfulLog objects schema log → AreMadeFor objects schema entries log
-      → (application : List ℕ) (before after : List Entry) (entry : Entry) → entries ≡ before ++ entry ∷ after → Contains (closes_of entry) application → numbers_by application (entry ∷ after) ≡ []
+      → (application : List ℕ) (before after : List Entry) (entry : Entry) → entries ≡ before ++ entry ∷ after → Contains (closes_of entry) application → numbers_by application after ≡ []
   closed_entries entries log lawful p application before after entry at closes =
       let here = made_within before entry after log (subst (λ (es : List Entry). AreMadeFor objects schema es log) at p) in
       let is : IsClose application (without_commit_info here.made) = close_stands entry application (without_commit_info here.made) here.behind.0 closes in
-      sym (numbers_by_log objects schema application (entry ∷ after) (here.made ∷ here.back) here.behind) ∙ lawful.closed application here.front here.back here.made here.parts is
+      let none : numbers_by application (entry ∷ after) ≡ [] = sym (numbers_by_log objects schema application (entry ∷ after) (here.made ∷ here.back) here.behind) ∙ lawful.closed application here.front here.back here.made here.parts is in
+      none_later (numbers_by application (entry ∷ [])) (numbers_by application after) (sym (numbers_by-append application (entry ∷ []) after) ∙ none)
 
 -- A store whose log is lawful is lawful.
 pub lawful_store : (objects : Objects) → HasLawfulLog objects → IsLawfulStore objects
@@ -164,7 +173,7 @@ lawful_store objects (schema, log, is_log, lawful) =
       holds = holds_for objects schema 0 built.entries log built.made is_log;
       lawful = record {
         begins = built.begins;
-        groups = built.groups;
+        suits = suits_each built.entries built.suits;
         rises = λ application. subst Rises (numbers_by_log objects schema application built.entries log built.made) (lawful.rises application);
         closed = closed_entries objects schema built.entries log lawful built.made;
       };

@@ -1,5 +1,6 @@
 pub mod ActionLemmas
 pub mod ConflictLemmas
+pub mod GivenFiles
 pub mod GroupLemmas
 pub mod HeldLemmas
 pub mod HoldingEnds

@@ -4,7 +4,7 @@ use Rattle.store_core.specs.Objects.{Objects, object_at, with_object}
 use Rattle.store_core.specs.ObjectLaws.{object_at-with_object_other, with_object_stands}
 use Rattle.store_core.specs.Names.{commit_name, greatest_version}
 use Rattle.delta_actions.specs.Names.{data_file_name}
-use Rattle.table_store.specs.Holds.{EndsAt, Holds}
+use Rattle.table_store.specs.Holds.{EndsAt, Holds, IsFreeIn}
 use Rattle.table_store.specs.Sound.{IsSound, IsAdmissible}
 use Rattle.table_store.proofs.HeldLemmas.{HoldsFirst-end}
 use Rattle.table_store.proofs.HoldingPuts.{HoldsFrom-commit, HoldsFrom-data_file}
@@ -47,11 +47,11 @@ sound_commit objects version bytes sound new = by_name (object_at objects (commi
     by_name None is = sound_with_commit objects version bytes is sound new
 
 -- A data file leaves a sound store sound.
-pub sound_data_file : (objects : Objects) (application bytes : List ℕ) (number : ℕ) → IsSound objects → IsSound (with_object objects (data_file_name application number) bytes)
-sound_data_file objects application bytes number sound = record {
+pub sound_data_file : (objects : Objects) (application bytes : List ℕ) (number : ℕ) → IsFreeIn objects (data_file_name application number) → IsSound objects → IsSound (with_object objects (data_file_name application number) bytes)
+sound_data_file objects application bytes number free sound = record {
   schema = sound.schema;
   entries = sound.entries;
-  holds = HoldsFrom-data_file objects sound.schema 0 sound.entries application bytes number sound.holds;
+  holds = HoldsFrom-data_file objects sound.schema 0 sound.entries application bytes number (free sound.schema sound.entries sound.holds) sound.holds;
   lawful = sound.lawful;
   ends = ends;
 }

@@ -1,9 +1,11 @@
 -- The schema of a table, and its data files (Delta PROTOCOL.md, "Schema Serialization Format"; Apache Parquet, File Format).
 use Rattle.std.specs.Prelude.{ℕ, List}
+use Rattle.delta_actions.specs.Names.{data_file_name}
 use Rattle.schema_tree.specs.Limits.{IsWithinLimits}
 use Rattle.schema_tree.specs.Tree.{Tree}
 use Rattle.parquet_file.specs.File.{IsFile}
 use Rattle.row_core.specs.Rows.{Row}
+use Rattle.table_model.specs.Table.{Path, of_batch, named}
 
 -- a schema: the struct of the table's columns
 abbrev pub Schema : Type 0
@@ -13,3 +15,8 @@ Schema = Tree
 pub record IsFileOf (schema : Schema) (bytes : List ℕ) (rows : List Row) : Type 0 where
   pub within : IsWithinLimits schema
   pub file : IsFile bytes schema rows
+
+-- the name under which a file lies
+abbrev pub path_name : Path → List ℕ
+path_name (of_batch application number) = data_file_name application number
+path_name (named key) = key

@@ -7,8 +7,8 @@ ghost use Rattle.store_core.specs.Names.{commit_name};
 ghost use Rattle.delta_actions.specs.Names.{data_file_name};
 ghost use Rattle.table_store.specs.Schema.{Schema};
 ghost use Rattle.table_store.specs.Commits.{IsCommitOf};
-ghost use Rattle.table_store.specs.Holds.{EndsAt, Holds, FilesStand, IsLawfulStore};
-ghost use Rattle.table_model.specs.Lawful.{BeginsWithCreation, IsLawful};
+ghost use Rattle.table_store.specs.Holds.{EndsAt, Holds, FilesStand, IsFree, IsFreeIn, IsLawfulStore, TellsOf};
+ghost use Rattle.table_model.specs.Lawful.{Begins, IsLawful};
 ghost use Rattle.table_store.specs.Logs.{IsLog, AreBatches, AreRows};
 ghost use Rattle.table_store.specs.LawfulLogs.{HasLawfulLog};
 ghost use Rattle.table_store.specs.Sound.{IsAdmissible, IsSound};
@@ -20,8 +20,8 @@ ghost use Rattle.table_model.specs.declared.reading.Offset.{Offset};
 /// A store holds one table at most that begins with its creation: one log of entries, and one schema. (Without a
 /// creation no entry tells the schema, and a file may be one of several tables, whose columns stand in another order.)
 pub fn one_table()
-    ensures log { (objects : Objects) (schema other : Schema) (entries others : List Entry) → BeginsWithCreation entries → Holds objects schema entries → Holds objects other others → entries ≡ others }
-    ensures schema { (objects : Objects) (schema other : Schema) (first : Entry) (entries others : List Entry) → BeginsWithCreation (first ∷ entries) → Holds objects schema (first ∷ entries) → Holds objects other others
+    ensures log { (objects : Objects) (schema other : Schema) (entries others : List Entry) → Begins entries → Holds objects schema entries → Holds objects other others → entries ≡ others }
+    ensures schema { (objects : Objects) (schema other : Schema) (first : Entry) (entries others : List Entry) → Begins (first ∷ entries) → Holds objects schema (first ∷ entries) → Holds objects other others
         → schema ≡ other }
 {}
 
@@ -34,11 +34,11 @@ pub fn a_lawful_store_holds_lawful_tables()
 /// table is a front of the second, where it begins with its creation: the same entries come first, and the schema is
 /// the same. Each offset that a read of the first can begin at is one of the second, at the same position.
 pub fn a_grown_store_holds_a_grown_table()
-    ensures front { (objects more : Objects) (schema other : Schema) (entries others : List Entry) → HasObjectsOf objects more → BeginsWithCreation entries → Holds objects schema entries → Holds more other others
+    ensures front { (objects more : Objects) (schema other : Schema) (entries others : List Entry) → HasObjectsOf objects more → Begins entries → Holds objects schema entries → Holds more other others
         → (later : List Entry) × (others ≡ entries ++ later) }
-    ensures schema { (objects more : Objects) (schema other : Schema) (first : Entry) (entries others : List Entry) → HasObjectsOf objects more → BeginsWithCreation (first ∷ entries)
+    ensures schema { (objects more : Objects) (schema other : Schema) (first : Entry) (entries others : List Entry) → HasObjectsOf objects more → Begins (first ∷ entries)
         → Holds objects schema (first ∷ entries) → Holds more other others → schema ≡ other }
-    ensures offsets { (objects more : Objects) (schema other : Schema) (entries others : List Entry) (offset : Offset) → HasObjectsOf objects more → BeginsWithCreation entries → Holds objects schema entries → Holds more other others
+    ensures offsets { (objects more : Objects) (schema other : Schema) (entries others : List Entry) (offset : Offset) → HasObjectsOf objects more → Begins entries → Holds objects schema entries → Holds more other others
         → is_offset offset entries ≡ true → (is_offset offset others ≡ true) × (position offset others ≡ position offset entries) }
 {}
 
@@ -46,13 +46,13 @@ pub fn a_grown_store_holds_a_grown_table()
 /// no commit stands at the version behind it, if there is one, the store holds the table with one entry more.
 pub fn a_commit_is_one_entry_more()
     ensures { (objects : Objects) (schema : Schema) (entries : List Entry) (entry : Entry) (bytes : List ℕ) → Holds objects schema entries → IsCommitOf schema entry bytes → FilesStand objects schema entry
-        → EndsAt objects (suc (length entries))
+        → TellsOf objects schema (length entries) entry → EndsAt objects (suc (length entries))
         → Holds (with_object objects (commit_name (length entries)) bytes) schema (entries ++ entry ∷ []) }
 {}
 
-/// A data file that is put leaves the table as it was.
+/// A data file that is put leaves the table as it was, where no entry lacks its name.
 pub fn a_data_file_changes_no_table()
-    ensures { (objects : Objects) (schema : Schema) (entries : List Entry) (application bytes : List ℕ) (number : ℕ) → Holds objects schema entries
+    ensures { (objects : Objects) (schema : Schema) (entries : List Entry) (application bytes : List ℕ) (number : ℕ) → IsFree entries (data_file_name application number) → Holds objects schema entries
         → Holds (with_object objects (data_file_name application number) bytes) schema entries }
 {}
 
@@ -100,7 +100,7 @@ pub fn an_admissible_commit_keeps_a_store_sound()
     ensures { (objects : Objects) (version : ℕ) (bytes : List ℕ) → IsSound objects → IsAdmissible objects version bytes → IsSound (with_object objects (commit_name version) bytes) }
 {}
 
-/// So does a data file, whatever its bytes: a name that is taken keeps those that it has.
+/// So does a data file under a name that no entry lacks, whatever its bytes: a name that is taken keeps those that it has.
 pub fn a_data_file_keeps_a_store_sound()
-    ensures { (objects : Objects) (application bytes : List ℕ) (number : ℕ) → IsSound objects → IsSound (with_object objects (data_file_name application number) bytes) }
+    ensures { (objects : Objects) (application bytes : List ℕ) (number : ℕ) → IsFreeIn objects (data_file_name application number) → IsSound objects → IsSound (with_object objects (data_file_name application number) bytes) }
 {}

@@ -13,7 +13,7 @@ use Rattle.store_core.specs.Objects.{Objects}
 use Rattle.stream_world.specs.Events.{Event, Happens, IsWorldOf, Ran, act, answer, begin, die, land, with_told}
 use Rattle.stream_world.specs.Events as events
 use Rattle.stream_world.specs.Headline.{IsHeadline}
-use Rattle.stream_world.specs.Worlds.{World}
+use Rattle.stream_world.specs.Worlds.{IsFirstStore, World}
 use Rattle.stream_world.specs.Standing.{taking}
 use Rattle.table_model.specs.Table.{Entry}
 use Rattle.table_store.specs.Holds.{Holds}
@@ -158,10 +158,10 @@ IsSoundLaw = (seen : List Event) (outs : List (Job × Outcome)) (w : World) → 
 abbrev pub IsHeadlineLaw : Type 0
 IsHeadlineLaw = (seen : List Event) (outs : List (Job × Outcome)) (w : World) → IsWorldOf seen outs w → (schema : Schema) (entries : List Entry) → Holds w.objects schema entries → IsHeadline seen outs schema entries
 
-played_so : (uses : Bool) (those : List (List ℕ)) (written : List ℕ) (seen : List Event) (outs : List (Job × Outcome)) (short : Bool) (objects : Objects) → IsSoundLaw → IsHeadlineLaw → ArePutHere those
-    → HasPlayed (first_scene [] uses) those written seen outs short objects → IsSoOfTable seen outs objects
-played_so uses those written seen outs short objects sound headline here played =
-    let of_world : IsWorldOf seen outs played.last.world = plays_ran (first_scene [] uses) those written seen outs short played.last here played.plays in
+played_so : (uses : Bool) (first : Objects) → IsFirstStore first → (those : List (List ℕ)) (written : List ℕ) (seen : List Event) (outs : List (Job × Outcome)) (short : Bool) (objects : Objects) → IsSoundLaw → IsHeadlineLaw → ArePutHere those
+    → HasPlayed (first_scene first uses) those written seen outs short objects → IsSoOfTable seen outs objects
+played_so uses first may those written seen outs short objects sound headline here played =
+    let of_world : IsWorldOf seen outs played.last.world = (first, may, plays_ran (first_scene first uses) those written seen outs short played.last here played.plays) in
     record {
       w = played.last.world;
       of_world = of_world;
@@ -170,22 +170,20 @@ played_so uses those written seen outs short objects sound headline here played 
       headline = λ schema entries holds. headline seen outs played.last.world of_world schema entries (subst (λ (o : Objects). Holds o schema entries) (sym played.stand) holds);
     }
 
-text_so : (uses : Bool) (text written : List ℕ) (seen : List Event) (outs : List (Job × Outcome)) (short : Bool) (objects : Objects) → IsSoundLaw → IsHeadlineLaw → ArePutHere (lines_of text)
-    → HasPlayedText (first_scene [] uses) text written seen outs short objects → IsSoOfTable seen outs objects
-text_so uses text _ _ _ _ _ sound headline here (plays.to_end written seen outs short objects played) = played_so uses (lines_of text) written seen outs short objects sound headline here played
-text_so uses text _ _ _ _ _ sound headline here (plays.to_bad those line rest written seen outs short objects are bad played) =
-    played_so uses those written seen outs short objects sound headline (front_here those (line ∷ rest) (subst ArePutHere are here)) played
+text_so : (uses : Bool) (first : Objects) → IsFirstStore first → (text written : List ℕ) (seen : List Event) (outs : List (Job × Outcome)) (short : Bool) (objects : Objects) → IsSoundLaw → IsHeadlineLaw → ArePutHere (lines_of text)
+    → HasPlayedText (first_scene first uses) text written seen outs short objects → IsSoOfTable seen outs objects
+text_so uses first may text _ _ _ _ _ sound headline here (plays.to_end written seen outs short objects played) = played_so uses first may (lines_of text) written seen outs short objects sound headline here played
+text_so uses first may text _ _ _ _ _ sound headline here (plays.to_bad those line rest written seen outs short objects are bad played) =
+    played_so uses first may those written seen outs short objects sound headline (front_here those (line ∷ rest) (subst ArePutHere are here)) played
 
--- what a text was told that was played over nothing is so
-pub script_so : (uses : Bool) (text written : List ℕ) (short : Bool) (first objects : Objects) → IsSoundLaw → IsHeadlineLaw → ArePutHere (lines_of text) → first ≡ [] → PlaysShort (first_scene first uses) text written short objects → PlaysSo (first_scene [] uses) text written objects
-script_so uses text written short first objects sound headline here nothing played =
-    let over_nothing : PlaysShort (first_scene [] uses) text written short objects = subst (λ (o : Objects). PlaysShort (first_scene o uses) text written short objects) nothing played in
-    (over_nothing.0, over_nothing.1, short, over_nothing.2, text_so uses text written over_nothing.0 over_nothing.1 short objects sound headline here over_nothing.2)
+-- what a text was told that was played over what may stand first is so
+pub script_so : (uses : Bool) (text written : List ℕ) (short : Bool) (first objects : Objects) → IsSoundLaw → IsHeadlineLaw → ArePutHere (lines_of text) → IsFirstStore first → PlaysShort (first_scene first uses) text written short objects → PlaysSo (first_scene first uses) text written objects
+script_so uses text written short first objects sound headline here may played =
+    (played.0, played.1, short, played.2, text_so uses first may text written played.0 played.1 short objects sound headline here played.2)
 
-pub part_so : (uses : Bool) (text : List ℕ) (first objects : Objects) → IsSoundLaw → IsHeadlineLaw → ArePutHere (lines_of text) → first ≡ [] → PlaysInPart (first_scene first uses) text objects → StaysSo (first_scene [] uses) text objects
-part_so uses text first objects sound headline here nothing played =
-    let part : PlaysInPart (first_scene [] uses) text objects = subst (λ (o : Objects). PlaysInPart (first_scene o uses) text objects) nothing played in
-    record { part = part; so = played_so uses part.lines part.written part.events part.outs part.short objects sound headline (front_here part.lines part.rest (subst ArePutHere part.are here)) part.played }
+pub part_so : (uses : Bool) (text : List ℕ) (first objects : Objects) → IsSoundLaw → IsHeadlineLaw → ArePutHere (lines_of text) → IsFirstStore first → PlaysInPart (first_scene first uses) text objects → StaysSo (first_scene first uses) text objects
+part_so uses text first objects sound headline here may part =
+    record { part = part; so = played_so uses first may part.lines part.written part.events part.outs part.short objects sound headline (front_here part.lines part.rest (subst ArePutHere part.are here)) part.played }
 
 -- what was written is so where it is so by what is known of it
 pub finishes_as : (end : End) (old new : Option (List ℕ)) (Known So : List ℕ → Type 0) → ((written : List ℕ) → Known written → So written) → Finishes end (λ _. TellsWhole old new Known) → Finishes end (λ _. TellsWhole old new So)
@@ -195,8 +193,8 @@ finishes_as NotRead old new Known So by told = tt
 finishes_as NotWritten old new Known So by told = tt
 
 -- what was told is so
-pub finishes_so : (end : End) (old new : Option (List ℕ)) (uses : Bool) (text : List ℕ) (short : Bool) (first objects : Objects) → IsSoundLaw → IsHeadlineLaw → ArePutHere (lines_of text) → first ≡ []
-    → Finishes end (λ _. TellsWhole old new (λ written. PlaysShort (first_scene first uses) text written short objects)) → Finishes end (λ _. TellsWhole old new (λ written. PlaysSo (first_scene [] uses) text written objects))
-finishes_so end old new uses text short first objects sound headline here nothing told =
-    finishes_as end old new (λ written. PlaysShort (first_scene first uses) text written short objects) (λ written. PlaysSo (first_scene [] uses) text written objects)
-    (λ written played. script_so uses text written short first objects sound headline here nothing played) told
+pub finishes_so : (end : End) (old new : Option (List ℕ)) (uses : Bool) (text : List ℕ) (short : Bool) (first objects : Objects) → IsSoundLaw → IsHeadlineLaw → ArePutHere (lines_of text) → IsFirstStore first
+    → Finishes end (λ _. TellsWhole old new (λ written. PlaysShort (first_scene first uses) text written short objects)) → Finishes end (λ _. TellsWhole old new (λ written. PlaysSo (first_scene first uses) text written objects))
+finishes_so end old new uses text short first objects sound headline here may told =
+    finishes_as end old new (λ written. PlaysShort (first_scene first uses) text written short objects) (λ written. PlaysSo (first_scene first uses) text written objects)
+    (λ written played. script_so uses text written short first objects sound headline here may played) told

@@ -7,6 +7,7 @@ use Rattle.lake_script.specs.declared.engine.End.{End}
 use Rattle.store_core.specs.Objects.{Objects}
 use Rattle.stream_world.specs.Puts.{WasBegun}
 use Rattle.stream_world.specs.Events.{Event, begin}
+use Rattle.stream_world.specs.Worlds.{IsFirstStore}
 use Rattle.stream_world.proofs.PairedTold.{headline_of_more}
 use Rattle.table_jobs.specs.Jobs.{Job, Outcome}
 use Rattle.table_store.proofs.ConflictLemmas.{Contains-map}
@@ -37,9 +38,9 @@ text_tells objects uses text _ _ _ _ _ (plays.to_bad those line rest written see
 begun_by_one : (seen : List Event) (jobs : List Job) → AreHanded seen jobs → (job : Job) → WasBegun seen job → WasBegun (map (begin 0) jobs) job
 begun_by_one seen jobs handed job (can, name, has) = (can, 0, Contains-map (begin 0) jobs job (handed name job has))
 
-so_told : (uses : Bool) (text written : List ℕ) (objects : Objects) → PlaysSo (first_scene [] uses) text written objects → IsTextSo uses text written objects
-so_told uses text written objects (seen, outs, short, played, so) =
-    let told = text_tells [] uses text written seen outs short objects played in
+so_told : (uses : Bool) (text written : List ℕ) (first objects : Objects) → PlaysSo (first_scene first uses) text written objects → IsTextSo uses text written objects
+so_told uses text written first objects (seen, outs, short, played, so) =
+    let told = text_tells first uses text written seen outs short objects played in
     record {
       handed = told.handed;
       outs = outs;
@@ -47,14 +48,14 @@ so_told uses text written objects (seen, outs, short, played, so) =
       headline = λ schema entries holds. headline_of_more seen (map (begin 0) told.handed) outs schema entries (begun_by_one seen told.handed told.are_handed) (so.headline schema entries holds);
     }
 
--- What a text was told that was played over nothing is so of the store that it left.
-pub text_told : (uses : Bool) (text written : List ℕ) (short : Bool) (first objects : Objects) → IsSoundLaw → IsHeadlineLaw → ArePutHere (lines_of text) → first ≡ [] → PlaysShort (first_scene first uses) text written short objects
+-- What a text was told that was played over what may stand first is so of the store that it left.
+pub text_told : (uses : Bool) (text written : List ℕ) (short : Bool) (first objects : Objects) → IsSoundLaw → IsHeadlineLaw → ArePutHere (lines_of text) → IsFirstStore first → PlaysShort (first_scene first uses) text written short objects
     → IsTextSo uses text written objects
-text_told uses text written short first objects sound headline here nothing played = so_told uses text written objects (script_so uses text written short first objects sound headline here nothing played)
+text_told uses text written short first objects sound headline here may played = so_told uses text written first objects (script_so uses text written short first objects sound headline here may played)
 
 -- the same of what was written
-pub finishes_told : (end : End) (old new : Option (List ℕ)) (uses : Bool) (text : List ℕ) (short : Bool) (first objects : Objects) → IsSoundLaw → IsHeadlineLaw → ArePutHere (lines_of text) → first ≡ []
+pub finishes_told : (end : End) (old new : Option (List ℕ)) (uses : Bool) (text : List ℕ) (short : Bool) (first objects : Objects) → IsSoundLaw → IsHeadlineLaw → ArePutHere (lines_of text) → IsFirstStore first
     → Finishes end (λ _. TellsWhole old new (λ written. PlaysShort (first_scene first uses) text written short objects)) → Finishes end (λ _. TellsWhole old new (λ written. IsTextSo uses text written objects))
-finishes_told end old new uses text short first objects sound headline here nothing told =
+finishes_told end old new uses text short first objects sound headline here may told =
     finishes_as end old new (λ written. PlaysShort (first_scene first uses) text written short objects) (λ written. IsTextSo uses text written objects)
-    (λ written played. text_told uses text written short first objects sound headline here nothing played) told
+    (λ written played. text_told uses text written short first objects sound headline here may played) told

@@ -3,8 +3,8 @@ use Rattle.std.specs.Prelude.{◌≡◌, ◌+◌, ℕ, List, Bool, false, Option
 use Rattle.std.specs.BTreeMap.{get_by_text}
 use Rattle.store_core.specs.Objects.{Objects}
 use Rattle.script_lines.specs.declared.kind.Kind.{Kind}
-use Rattle.stream_world.specs.Worlds.{World}
-use Rattle.stream_world.specs.Standing.{WorldStands, quiet_world}
+use Rattle.stream_world.specs.Worlds.{World, first_world}
+use Rattle.stream_world.specs.Standing.{WorldStands}
 use Rattle.world_script.specs.declared.part.Part.{Part}
 use Rattle.world_script.specs.declared.scene.Scene as code
 
@@ -20,7 +20,7 @@ pub record Scene : Type 0 where
 
 -- the scene over these objects in which nobody was named; actors that have a name are numbered from 1, and sessions try 16 versions
 abbrev pub first_scene : Objects → (use_checkpoints : Bool) → Scene
-first_scene objects use_checkpoints = record { world = quiet_world objects; part = λ name. None; next = 1; tries = 16; fault = None; use_checkpoints = use_checkpoints }
+first_scene objects use_checkpoints = record { world = first_world objects; part = λ name. None; next = 1; tries = 16; fault = None; use_checkpoints = use_checkpoints }
 
 -- the part of an actor of a name, a new one where it has none yet, and which number comes next then
 abbrev pub part_for : Option Part → (next : ℕ) → Part

@@ -11,6 +11,7 @@ use Rattle.lake_script.specs.declared.engine.Outcome.{Outcome}
 use Rattle.lake_script.specs.declared.inputs.Input.{Input}
 use Rattle.lake_script.specs.declared.inputs.TheConstants.{MOST_BYTES, MOST_READS}
 use Rattle.lake_script.specs.declared.outputs.Output.{Output}
+use Rattle.stream_world.specs.Worlds.{IsFirstStore}
 use Rattle.world_script.specs.Playing.{PlaysInPart, PlaysShort, PlaysSo, StaysSo}
 use Rattle.world_script.specs.Scenes.{first_scene}
 use Rattle.world_script.specs.Words.{needs_world}
@@ -23,13 +24,13 @@ pub record IsWorldRun (use_checkpoints : Bool) (text : List ℕ) (outcome : Outc
   pub tells_short : Finishes outcome.end (λ _. TellsWhole old new (λ written. PlaysShort (first_scene before use_checkpoints) text written (fell_short outcome) after))
   -- However it ends, some first lines did so.
   pub in_part : PlaysInPart (first_scene before use_checkpoints) text after
-  -- Where nothing stood, and no line puts another tool's commit, the store that is left is sound, and what sessions told
+  -- Where what stood may stand first, nothing, and no line puts another tool's commit, the store that is left is sound, and what sessions told
   -- is so of the table that it holds: each batch that was acknowledged stands in the log once, every batch at most once
   -- and as submitted, each application's in rising number and none after its close; and what a reader was handed that
   -- resumes at its last offset is exactly the log's rows up to that offset, once each, in log order.
-  pub worlds : before ≡ [] → ArePutHere (lines_of text) → Finishes outcome.end (λ _. TellsWhole old new (λ written. PlaysSo (first_scene [] use_checkpoints) text written after))
+  pub worlds : IsFirstStore before → ArePutHere (lines_of text) → Finishes outcome.end (λ _. TellsWhole old new (λ written. PlaysSo (first_scene before use_checkpoints) text written after))
   -- The store is sound however it ends.
-  pub sound : before ≡ [] → ArePutHere (lines_of text) → StaysSo (first_scene [] use_checkpoints) text after
+  pub sound : IsFirstStore before → ArePutHere (lines_of text) → StaysSo (first_scene before use_checkpoints) text after
 
 -- What any text comes to, over a store that loses no call.
 pub record IsRunOf {W S : Type 0} (contents : W → Option (List ℕ)) (objects : S → Objects) (use_checkpoints : Bool) (text : List ℕ) (outcome : Outcome) (old new : Output W) (before after : S) : Type 0 where

@@ -1,10 +1,11 @@
 //! The engine of a script with actors: it answers the lines of a text in a world, one by one.
-ghost use Rattle.std.specs.Prelude.{◌≡◌, ◌≤◌, ◌^◌, [], None, length};
+ghost use Rattle.std.specs.Prelude.{◌≡◌, ◌≤◌, ◌^◌, None, length};
 ghost use Rattle.delta_actions.specs.Commit.{lines_of};
 ghost use Rattle.lake_script.specs.Runs.{TellsWhole};
 ghost use Rattle.lake_script.specs.Streams.{held};
 ghost use Rattle.lake_script.specs.TextRuns.{EndsText};
 ghost use Rattle.lake_script.specs.Told.{ArePutHere, Finishes};
+ghost use Rattle.stream_world.specs.Worlds.{IsFirstStore};
 ghost use Rattle.world_script.specs.ByLines.{IsTextSo};
 ghost use Rattle.world_script.specs.WorldRuns.{IsWorldRun};
 
@@ -45,7 +46,7 @@ pub fn play<S: Store, W: Write>(
     ensures played { S.is_reliable store → IsWorldRun use_checkpoints text.now result.outcome (held W.contents output.old) (W.contents output.new.writer) (S.objects store) (S.objects result.store) }
     // The sentence, where the run finishes and the writer tells its bytes: where nothing stood, and no line puts another
     // tool's commit, what the text's jobs told, by its lines and the replies alone, is so of the table that is left.
-    ensures headline { S.is_reliable store → S.objects store ≡ [] → ArePutHere (lines_of text.now) → Finishes result.outcome.end (λ _. TellsWhole (held W.contents output.old) (W.contents output.new.writer)
+    ensures headline { S.is_reliable store → IsFirstStore (S.objects store) → ArePutHere (lines_of text.now) → Finishes result.outcome.end (λ _. TellsWhole (held W.contents output.old) (W.contents output.new.writer)
         (λ written. IsTextSo use_checkpoints text.now written (S.objects result.store))) }
     ensures reliable { S.is_reliable store → S.is_reliable result.store }
     // Over any store, one that loses calls too: which bad line it ends at, and how it leaves the output.

@@ -9,9 +9,9 @@ use Rattle.read_laws.proofs.ReaderLaws.{follow_parts, limits_same, stays_offset}
 use Rattle.read_laws.proofs.reads_that_follow_hand_out_the_log.Goals as goal
 
 pub returns-clause-part : goal.returns-clause-part
-returns-clause-part c = λ schema reads offset entries within follow.
+returns-clause-part c = λ schema reads offset entries place follow.
     subst (λ (n : ℕ). IsPart n offset (rows_of_all reads) (next_of_all reads offset) (table_of_all reads entries)) (limits_same reads)
-    (handed_out (map (λ r. (r.max, r.more)) reads) offset entries _ within (follow_parts no_part stays_offset schema reads offset entries within follow))
+    (handed_out (map (λ r. (r.max, r.more)) reads) offset entries _ place.0 (follow_parts no_part stays_offset schema reads offset entries place.0 follow))
 
 pub returns-clause-from_beginning : goal.returns-clause-from_beginning
 returns-clause-from_beginning c = λ schema reads entries follow.

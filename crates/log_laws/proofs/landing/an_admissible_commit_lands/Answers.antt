@@ -6,4 +6,4 @@ pub returns-clause-now : goal.returns-clause-now
 returns-clause-now c = commit_lands
 
 pub returns-clause-later : goal.returns-clause-later
-returns-clause-later c = λ objects more version bytes grown sound new. commit_lands more version bytes sound (admissible_kept objects more grown version bytes new)
+returns-clause-later c = λ objects more version bytes grown sound new lacking. commit_lands more version bytes sound (admissible_kept objects more grown version bytes new lacking)

@@ -27,7 +27,7 @@ returns-clause-close c = λ objects more schema other entries others answer appl
     table_has objects more schema other entries others (TellsClose answer application) sound.table grown holds held (λ later. close_lasts answer application entries later told)
 
 pub returns-clause-number : goal.returns-clause-number
-returns-clause-number c = λ objects more schema other entries others b sound still grown holds held is.
+returns-clause-number c = λ objects more schema other entries others t sound still grown holds held is.
     let later = table_front objects more schema other entries others sound.table grown holds held in
     let lawful = subst IsLawful later.1 (lawful_table more still.table other others held) in
-    subst (NotBelow b.application b) (sym later.1) (number_kept b.application b entries later.0 lawful is)
+    subst (NotBelow t.application t) (sym later.1) (number_kept t.application t entries later.0 lawful is)

@@ -6,6 +6,7 @@ use Rattle.table_store.specs.Schema.{Schema}
 use Rattle.sink_core.specs.SinkSessions.{SinkAsks, SinkJob}
 use Rattle.session_laws.specs.May.{BearsSession, MayAsk}
 use Rattle.table_jobs.specs.Jobs.{IsValidJob, streams}
+use Rattle.table_store.proofs.Callers.{all_free}
 use Rattle.session_laws.proofs.StreamLacks.{stream_tells}
 use Rattle.session_laws.proofs.StreamPuts.{puts_commit, puts_file}
 use Rattle.session_laws.proofs.sessions.what_a_stream_may.Goals as goal
@@ -17,7 +18,7 @@ returns-clause-asks c = λ objects schema entries job before talk asked amid wel
         → MayAsk objects schema (streams job) talk asked
     by_call list_names objects schema entries job before talk amid well asks = tt
     by_call (get_object name) objects schema entries job before talk amid well asks = tt
-    by_call (put_file name bytes) objects schema entries job before talk amid well asks = (asks.0, puts_file objects schema entries amid.sound amid.bytes amid.holds job before amid.earlier talk name bytes amid.borne asks)
+    by_call (put_file name bytes) objects schema entries job before talk amid well asks = (asks.0, puts_file objects schema entries amid.sound amid.bytes amid.holds job before amid.earlier talk name bytes amid.borne asks, λ other those holds. all_free those name)
     by_call (put_commit version bytes) objects schema entries job before talk amid well asks =
         let both = puts_commit objects schema entries amid.sound amid.bytes amid.holds job before amid.earlier
         (λ put race at put_bytes lawful borne here commit own asks_so. c.what_a_commit_may.ensures.asks objects put before race at put_bytes lawful borne here commit own asks_so) well.0 talk version bytes amid.borne asks in

@@ -1,4 +1,5 @@
-use Rattle.std.proofs.Common.{◌∙◌, ap, subst}
+use Rattle.std.proofs.Common.{[], ◌∷◌, ◌++◌, ◌∙◌, ap, subst}
+use Rattle.table_store.proofs.Callers.{all_lack}
 use Rattle.session_laws.specs.Jobs.{Job}
 use Rattle.stream_model.specs.Worlds.{ended}
 use Rattle.stream_model.proofs.Laws.{AreLaws}
@@ -13,7 +14,7 @@ laws_of : goal.After-a_part_from_the_beginning_is_a_front → AreLaws
 laws_of c = record {
   empty = c.an_empty_store_is_sound.ensures;
   commit_lands = c.an_admissible_commit_lands.ensures.now;
-  commit_stays = c.an_admissible_commit_stays_admissible.ensures;
+  commit_stays = λ objects more version bytes grown new. c.an_admissible_commit_stays_admissible.ensures objects more version bytes grown new (all_lack more (new.entries ++ new.entry ∷ []));
   file_lands = c.a_data_file_lands.ensures.file;
   checkpoint_lands = c.a_sound_checkpoint_lands.ensures.now;
   checkpoint_stays = c.a_sound_checkpoint_stays_sound.ensures;

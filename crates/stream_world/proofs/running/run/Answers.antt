@@ -36,10 +36,10 @@ returns-clause-sound g c =
     sym (map-id c.loop-event.yielded)
     ∙ (YieldsList-end (YieldsList-from_vec {s = c.into_iter-event-iterator.result} c.args.events.items c.into_iter-event-iterator.ensures.into_iter_gives.0 (omega arith))
     c.loop-event.yielded c.loop-event.event-iterator c.loop-event.yielded_by c.next.result c.next.new.self c.in-None.is c.next.ensures.steps).0 in
-    λ reliable nothing.
+    λ reliable may.
     sound_so s.objects (s.objects c.args.store) c.args.events.items c.loop-event.told.items c.loop-event.world
     (subst (λ (seen : List code_event.Event). HasRun s.objects (s.objects c.args.store) seen c.loop-event.told.items c.loop-event.world) all (c.loop-event.invariant.run reliable))
-    nothing c.every_world.ensures.sound
+    may c.every_world.ensures.sound
 
 pub returns-clause-headline : goal.returns-clause-headline
 returns-clause-headline g c =
@@ -48,7 +48,7 @@ returns-clause-headline g c =
     sym (map-id c.loop-event.yielded)
     ∙ (YieldsList-end (YieldsList-from_vec {s = c.into_iter-event-iterator.result} c.args.events.items c.into_iter-event-iterator.ensures.into_iter_gives.0 (omega arith))
     c.loop-event.yielded c.loop-event.event-iterator c.loop-event.yielded_by c.next.result c.next.new.self c.in-None.is c.next.ensures.steps).0 in
-    λ reliable nothing.
+    λ reliable may.
     told_so s.objects (s.objects c.args.store) c.args.events.items c.loop-event.told.items c.loop-event.world
     (subst (λ (seen : List code_event.Event). HasRun s.objects (s.objects c.args.store) seen c.loop-event.told.items c.loop-event.world) all (c.loop-event.invariant.run reliable))
-    nothing c.every_world.ensures.headline
+    may c.every_world.ensures.headline
