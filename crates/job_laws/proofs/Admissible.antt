@@ -13,7 +13,7 @@ use Rattle.row_core.proofs.Callers.{same_rows-is}
 use Rattle.table_model.specs.Appends.{appended}
 use Rattle.table_model.specs.declared.table.AppendAnswer.TheVariants.{Committed}
 use Rattle.table_model.specs.Table as model
-use Rattle.table_model.specs.Table.{Told, Entry, group, is_stream_closed, last_told}
+use Rattle.table_model.specs.Table.{ToldNumber, Entry, group, is_stream_closed, last_told}
 use Rattle.table_store.specs.Commits.{IsCommitOf}
 use Rattle.table_store.specs.Holds.{FileStands, HoldsFrom, Stands}
 use Rattle.table_store.specs.Schema.{Schema, IsFileOf}
@@ -32,7 +32,7 @@ use Rattle.job_laws.proofs.Requests.{PutsBatch, passed}
 -- ---- the table with one more batch
 
 -- a batch with a new number is taken by a table whose stream is open
-new_is_taken : (b : model.Batch) (entries : List Entry) (last : Option Told) → last_told b.application entries ≡ last → is_stream_closed b.application entries ≡ false
+new_is_taken : (b : model.Batch) (entries : List Entry) (last : Option ToldNumber) → last_told b.application entries ≡ last → is_stream_closed b.application entries ≡ false
     → is_repeat b.number (option_map (λ t. t.number) last) ≡ Ok false → appended b entries ≡ Committed (length entries)
 new_is_taken b entries None is goes_on new = rw (is, goes_on) refl
 new_is_taken b entries (Some before) is goes_on new = by_tests (ltb b.number before.number) (eqb b.number before.number) refl refl new

@@ -34,7 +34,7 @@ use Rattle.lake_command.specs.Status.{IsStatusOf, status_at, status_of, status_o
 use Rattle.world_script.specs.ByLines.{IsTextSo}
 use Rattle.world_script.specs.Playing.{PlaysShort, PlaysSo}
 use Rattle.world_script.specs.Scenes.{first_scene}
-use Rattle.world_script.specs.WorldRuns.{IsRunOf, IsWorldRun}
+use Rattle.world_script.specs.WorldRuns.{IsRunOfText, IsWorldRun}
 
 -- what is written over nothing is what the script is told
 tells_of_run : (old new : Option (List ℕ)) (text : List ℕ) (after : Objects) → IsScriptRun [] text old new after → TellsWhole old new (IsScriptTold [] text)
@@ -61,13 +61,13 @@ has_told NotWritten P fine run = absurd (fine refl)
 
 -- of a text that may not be known: what is so of a run without actors, and of one with them
 pub plain_of : {W S : Type 0} (contents : W → Option (List ℕ)) (objects : S → Objects) (uses : Bool) (outcome : Outcome) (old new : Output W) (before after : S) (is_reliable : Type 0) (input : Option (List ℕ))
-    → (is_reliable → IfSome input (λ text. IsRunOf contents objects uses text outcome old new before after))
+    → (is_reliable → IfSome input (λ text. IsRunOfText contents objects uses text outcome old new before after))
     → IfSome input (λ text. needs_world text ≡ false → is_reliable → IsTextRun uses text outcome (held contents old) (contents new.writer) (objects before) (objects after))
 plain_of contents objects uses outcome old new before after is_reliable None runs = tt
 plain_of contents objects uses outcome old new before after is_reliable (Some text) runs = λ none reliable. (runs reliable).plain none
 
 pub played_of : {W S : Type 0} (contents : W → Option (List ℕ)) (objects : S → Objects) (uses : Bool) (outcome : Outcome) (old new : Output W) (before after : S) (is_reliable : Type 0) (input : Option (List ℕ))
-    → (is_reliable → IfSome input (λ text. IsRunOf contents objects uses text outcome old new before after))
+    → (is_reliable → IfSome input (λ text. IsRunOfText contents objects uses text outcome old new before after))
     → IfSome input (λ text. needs_world text ≡ true → is_reliable → IsWorldRun uses text outcome (held contents old) (contents new.writer) (objects before) (objects after))
 played_of contents objects uses outcome old new before after is_reliable None runs = tt
 played_of contents objects uses outcome old new before after is_reliable (Some text) runs = λ has reliable. (runs reliable).played has

@@ -18,7 +18,7 @@ use Rattle.delta_actions.specs.Names.{data_file_name as plain_file_name}
 use Rattle.row_core.specs.Rows.{Row, same_rows}
 use Rattle.delta_replay.specs.Support.{has_key_inside}
 use Rattle.table_model.specs.Table as model
-use Rattle.table_model.specs.Table.{Told, told_of, Entry, creation, group, last_told, is_stream_closed}
+use Rattle.table_model.specs.Table.{ToldNumber, told_of, Entry, creation, group, last_told, is_stream_closed}
 use Rattle.commit_core.specs.TableCommits.{IsCommitOf}
 use Rattle.table_model.proofs.Callers.{append_keeps}
 use Rattle.batch_core.specs.Committing.{batch_actions, batch_file_name, greatest_number}
@@ -164,22 +164,22 @@ module _ (objects : Objects) (schema : Tree) (entries : List Entry) (kept : Keep
   open_agrees false new free sound = new_agrees new free sound
 
   -- the file of the last batch does stand, and is read
-  last_agrees : (before : Told) → last_told application entries ≡ Some before → ltb number before.number ≡ false → eqb number before.number ≡ true
+  last_agrees : (before : ToldNumber) → last_told application entries ≡ Some before → ltb number before.number ≡ false → eqb number before.number ≡ true
       → Agrees objects schema entries number (repeated_plan objects (asked (length entries) schema rows true) application number) (Ok (handed_in application number rows))
   last_agrees before last over equal =
       let found = last_batch application entries before last in
       let b = found.b in
-      let is : last_told application entries ≡ Some (told_of b) = last ∙ ap (λ (t : Told). Some t) (sym found.told) in
-      let over_it : ltb number b.number ≡ false = ap (λ (t : Told). ltb number t.number) found.told ∙ over in
-      let equal_it : eqb number b.number ≡ true = ap (λ (t : Told). eqb number t.number) found.told ∙ equal in
+      let is : last_told application entries ≡ Some (told_of b) = last ∙ ap (λ (t : ToldNumber). Some t) (sym found.told) in
+      let over_it : ltb number b.number ≡ false = ap (λ (t : ToldNumber). ltb number t.number) found.told ∙ over in
+      let equal_it : eqb number b.number ≡ true = ap (λ (t : ToldNumber). eqb number t.number) found.told ∙ equal in
       let file : FileKept objects schema b = batch_stands objects schema 0 entries b kept.kept found.stands in
       let name : plain_file_name application number ≡ plain_file_name b.application b.number =
       ap (λ (a : List ℕ). plain_file_name a number) (sym found.own) ∙ ap (plain_file_name b.application) (eqb-true number b.number equal_it) in
       again_agrees b file.0 is over_it equal_it (ap (object_at objects) name ∙ file.1) (file_read schema b file.0 file.2)
 
   -- what is done behind what was told last, if anything was
-  behind_agrees : (last : Option Told) → last_told application entries ≡ last → IsSoundPlan application number at (behind_last (option_map (λ (t : Told). t.number) last))
-      → Agrees objects schema entries number (behind_last (option_map (λ (t : Told). t.number) last)) (Ok (handed_in application number rows))
+  behind_agrees : (last : Option ToldNumber) → last_told application entries ≡ last → IsSoundPlan application number at (behind_last (option_map (λ (t : ToldNumber). t.number) last))
+      → Agrees objects schema entries number (behind_last (option_map (λ (t : ToldNumber). t.number) last)) (Ok (handed_in application number rows))
   behind_agrees None is sound = open_agrees (is_stream_closed application entries) (rw is refl) (no_file objects schema entries application number kept own utf8 fits (rw is tt)) sound
   behind_agrees (Some before) is sound = by_tests (ltb number before.number) (eqb number before.number) refl refl sound
     where
@@ -199,13 +199,13 @@ module _ (objects : Objects) (schema : Tree) (entries : List Entry) (kept : Keep
 -- what is done with rows that were read
 abbrev pub step_with : (objects : Objects) (entries : List Entry) (application : List ℕ) (number at : ℕ) (schema : Tree) → Result (List Row) SinkRefusal → Result AppendPlan SinkRefusal
 step_with objects entries application number at schema read =
-    (read >>= λ rows. is_repeat number (option_map (λ (t : Told). t.number) (last_told application entries)) >>= λ repeats. goes_on (is_stream_closed application entries) repeats >>= λ open_. Ok (asked (length entries) schema rows repeats))
+    (read >>= λ rows. is_repeat number (option_map (λ (t : ToldNumber). t.number) (last_told application entries)) >>= λ repeats. goes_on (is_stream_closed application entries) repeats >>= λ open_. Ok (asked (length entries) schema rows repeats))
     >>= plan_of objects application number at
 
 -- what a line asks of a kept table
 abbrev pub step_behind : (objects : Objects) (schema : Tree) (entries : List Entry) (application : List ℕ) (number at : ℕ) (items : Items) → Result (Unit {0}) SinkRefusal → (barred : Bool) → Result (Unit {0}) SinkRefusal → Result AppendPlan SinkRefusal
 step_behind objects schema entries application number at items fine barred takes =
-    (fine >>= λ passed. unless_invariant barred >>= λ plain. takes >>= λ supported. rows_from 0 schema items >>= λ rows. is_repeat number (option_map (λ (t : Told). t.number) (last_told application entries)) >>= λ repeats.
+    (fine >>= λ passed. unless_invariant barred >>= λ plain. takes >>= λ supported. rows_from 0 schema items >>= λ rows. is_repeat number (option_map (λ (t : ToldNumber). t.number) (last_told application entries)) >>= λ repeats.
     goes_on (is_stream_closed application entries) repeats >>= λ open_. Ok (asked (length entries) schema rows repeats)) >>= plan_of objects application number at
 
 -- that is what an append does over the objects

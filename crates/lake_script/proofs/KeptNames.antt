@@ -8,7 +8,7 @@ use Rattle.schema_tree.specs.Tree.{Tree}
 use Rattle.store_core.specs.Objects.{Objects, object_at}
 use Rattle.delta_actions.specs.Names.{data_file_name as plain_file_name}
 use Rattle.table_model.specs.Lawful.{Rises}
-use Rattle.table_model.specs.Table.{Batch, Told, told_of, Entry, batches_of, batches, tells, numbers_by, last_item, last_told}
+use Rattle.table_model.specs.Table.{Batch, ToldNumber, told_of, Entry, batches_of, batches, tells, numbers_by, last_item, last_told}
 use Rattle.table_model.proofs.Callers.{Contains-map, IsAbove, last_none, last_number, numbers_in, told-batches}
 use Rattle.batch_core.specs.Committing.{batch_file_name, greatest_number}
 use Rattle.read_laws.specs.Kept.{KeepsTable, KeptFrom, FileKept}
@@ -73,25 +73,25 @@ batch_stands objects schema version (entry ∷ entries) b kept has =
     ]
 
 -- a number that is told is one of its application's
-number_among : (ts : List Told) (t : Told) → Contains ts t → Contains (numbers_in t.application ts) t.number
+number_among : (ts : List ToldNumber) (t : ToldNumber) → Contains ts t → Contains (numbers_in t.application ts) t.number
 number_among [] t has = absurd (none_in_nothing t has)
 number_among (u ∷ ts) t has =
     elim (first_or_behind u ts t has) [
       | inl same ↦
-          let own : bytes_eq u.application t.application ≡ true = (bytes_eq-Decides u.application t.application).1 (ap (λ (v : Told). v.application) same) in
-          let number : u.number ≡ t.number = ap (λ (v : Told). v.number) same in
+          let own : bytes_eq u.application t.application ≡ true = (bytes_eq-Decides u.application t.application).1 (ap (λ (v : ToldNumber). v.application) same) in
+          let number : u.number ≡ t.number = ap (λ (v : ToldNumber). v.number) same in
           rw own (subst (λ (n : ℕ). Contains (n ∷ numbers_in t.application ts) t.number) (sym number) (first_in t.number (numbers_in t.application ts)))
       | inr later ↦ passed (bytes_eq u.application t.application) (number_among ts t later)
     ]
   where
-    passed : (own : Bool) → Contains (numbers_in t.application ts) t.number → Contains (map (λ (v : Told). v.number) (cond own (u ∷ filter (λ v. bytes_eq v.application t.application) ts) (filter (λ v. bytes_eq v.application t.application) ts))) t.number
+    passed : (own : Bool) → Contains (numbers_in t.application ts) t.number → Contains (map (λ (v : ToldNumber). v.number) (cond own (u ∷ filter (λ v. bytes_eq v.application t.application) ts) (filter (λ v. bytes_eq v.application t.application) ts))) t.number
     passed true there = behind_first u.number (numbers_in t.application ts) t.number there
     passed false there = there
 
 -- so is a batch's
 batch_number_among : (entries : List Entry) (b : Batch) → Contains (batches entries) b → Contains (numbers_by b.application entries) b.number
 batch_number_among entries b has =
-    let told : Contains (flat_map tells entries) (told_of b) = subst (λ (ts : List Told). Contains ts (told_of b)) (sym (told-batches entries)) (Contains-map told_of (batches entries) b has) in
+    let told : Contains (flat_map tells entries) (told_of b) = subst (λ (ts : List ToldNumber). Contains ts (told_of b)) (sym (told-batches entries)) (Contains-map told_of (batches entries) b has) in
     number_among (flat_map tells entries) (told_of b) told
 
 -- the last of rising numbers is the greatest
@@ -123,7 +123,7 @@ none_unless (Some x) never = absurd (never refl)
 
 -- no file stands under a number above the application's last one
 pub no_file : (objects : Objects) (schema : Tree) (entries : List Entry) (application : List ℕ) (number : ℕ) → KeepsTable objects schema entries → HasNoOther objects entries → IsUtf8 application → number ≤ greatest_number
-    → IsAbove number (option_map (λ (t : Told). t.number) (last_told application entries)) → object_at objects (plain_file_name application number) ≡ None
+    → IsAbove number (option_map (λ (t : ToldNumber). t.number) (last_told application entries)) → object_at objects (plain_file_name application number) ≡ None
 no_file objects schema entries application number kept own utf8 small above =
     none_unless (object_at objects (plain_file_name application number)) (λ some. never (own application number utf8 small some))
   where

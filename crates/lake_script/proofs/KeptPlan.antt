@@ -21,7 +21,7 @@ use Rattle.delta_replay.specs.Support.{has_key_inside}
 use Rattle.row_core.specs.Rows.{Row}
 use Rattle.row_core.proofs.Callers.{same_rows-is}
 use Rattle.table_model.specs.Table as model
-use Rattle.table_model.specs.Table.{Told, Entry, group, is_stream_closed, last_told}
+use Rattle.table_model.specs.Table.{ToldNumber, Entry, group, is_stream_closed, last_told}
 use Rattle.commit_core.proofs.Callers.{commit_name-data_file_name}
 use Rattle.batch_core.specs.Committing.{batch_file_name, greatest_number}
 use Rattle.batch_core.specs.Requests.{checked, is_repeat, is_same, unless_other_rows, where_same, file_or_refusal}
@@ -200,9 +200,9 @@ module _ (objects : Objects) (schema : Tree) (entries : List Entry) (kept : Keep
   again_goes_on (Err why) = (unchanged, unchanged)
 
   -- what is done behind what was told last of the application, if anything was
-  behind_goes_on : (last : Option Told) → last_told application entries ≡ last
-      → PutsWell application number at (behind (is_repeat number (option_map (λ (t : Told). t.number) last)))
-      → GoesOn (suc most) objects (behind (is_repeat number (option_map (λ (t : Told). t.number) last)))
+  behind_goes_on : (last : Option ToldNumber) → last_told application entries ≡ last
+      → PutsWell application number at (behind (is_repeat number (option_map (λ (t : ToldNumber). t.number) last)))
+      → GoesOn (suc most) objects (behind (is_repeat number (option_map (λ (t : ToldNumber). t.number) last)))
   behind_goes_on None is well = open_goes_on (is_stream_closed application entries) (rw is refl) well
   behind_goes_on (Some before) is well = by_tests (ltb number before.number) (eqb number before.number) refl refl well
     where

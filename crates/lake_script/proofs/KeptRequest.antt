@@ -8,7 +8,7 @@ use Rattle.store_core.specs.Objects.{Objects}
 use Rattle.delta_actions.specs.Action as actions
 use Rattle.delta_replay.specs.Support.{feature, has_key_inside}
 use Rattle.row_core.specs.Rows.{Row}
-use Rattle.table_model.specs.Table.{Told, Entry, creation, is_stream_closed, last_told}
+use Rattle.table_model.specs.Table.{ToldNumber, Entry, creation, is_stream_closed, last_told}
 use Rattle.batch_core.specs.Requests.{SinkRequest, close_behind, is_repeat, request_behind}
 use Rattle.batch_core.specs.Refusals.{SinkRefusal, read_only, stream_closed}
 use Rattle.batch_core.specs.RowsIn.{rows_from, takes_rows}
@@ -32,7 +32,7 @@ goes_on closed repeats = refused_if (not repeats && closed) stream_closed
 pub request_is : (objects : Objects) (next : ℕ) (schema : Tree) (entries rest : List Entry) (commits : List (List actions.Action)) (application : List ℕ) (number : ℕ) (items : Items) → IsUtf8 application
     → entries ≡ creation ∷ rest → AreMadeFor objects schema entries commits
     → request_behind next commits application number items
-    ≡ (unless_invariant (has_key_inside (codes "delta.invariants") schema) >>= λ plain. takes_rows schema >>= λ supported. rows_from 0 schema items >>= λ rows. is_repeat number (option_map (λ (t : Told). t.number) (last_told application entries)) >>= λ repeats.
+    ≡ (unless_invariant (has_key_inside (codes "delta.invariants") schema) >>= λ plain. takes_rows schema >>= λ supported. rows_from 0 schema items >>= λ rows. is_repeat number (option_map (λ (t : ToldNumber). t.number) (last_told application entries)) >>= λ repeats.
     goes_on (is_stream_closed application entries) repeats >>= λ open_. Ok (asked next schema rows repeats))
 unfolding request_behind
 request_is objects next schema entries rest commits application number items utf8 begins made =
@@ -40,7 +40,7 @@ request_is objects next schema entries rest commits application number items utf
     (by_fields (has_key_inside (codes "delta.invariants") schema))
   where
     last : Option ℕ
-    last = option_map (λ (t : Told). t.number) (last_told application entries)
+    last = option_map (λ (t : ToldNumber). t.number) (last_told application entries)
 
     by_fields : (barred : Bool)
         → (refused_as read_only (refused_if barred (feature (codes "invariants")) >>= λ plain. Ok schema) >>= λ (schema : Tree). takes_rows schema >>= λ supported. rows_from 0 schema items >>= λ rows.

@@ -1,5 +1,5 @@
 -- A candidate that doesn't conflict with the commit of its version is admissible behind it.
-use Rattle.std.proofs.Common.{◌≡◌, ℕ, suc, ◌+◌, ◌≤◌, true, List, [], ◌∷◌, ◌++◌, length, map, Some, Contains, refl, sym, ap, ap₂, subst, ◌∙◌, append_assoc, length-append, arith}
+use Rattle.std.proofs.Common.{◌≡◌, ℕ, suc, ◌+◌, ◌≤◌, true, List, [], ◌∷◌, ◌++◌, length, map, Some, Contains, refl, sym, ap, ap₂, subst, ◌∙◌, length-append, arith}
 use Rattle.std.specs.List.{filter_map}
 use Rattle.std.proofs.lemmas.List.Elements.{Contains-append_left, Contains-append_right}
 use Rattle.std.proofs.lemmas.Simd.{map-map}
@@ -12,7 +12,7 @@ use Rattle.delta_actions.specs.Commit.{IsCommit}
 use Rattle.store_core.specs.Names.{commit_name, greatest_version}
 use Rattle.delta_actions.specs.Names.{data_file_name, stream_domain}
 use Rattle.table_model.specs.Lawful.{Begins, IsLawful}
-use Rattle.table_model.specs.Table.{Path, Batch, Told, file_of, told_of, Entry, creation, group, close, batches_of, closes_of, has_protocol, names}
+use Rattle.table_model.specs.Table.{FileName, Batch, ToldNumber, batch_file, told_of, Entry, creation, group, close, batches_of, closes_of, has_protocol, names}
 use Rattle.table_model.proofs.Callers.{AreApart, goes_on as goes_behind, tells-batches, writes}
 use Rattle.table_store.specs.Commits.{without_commit_info, table_protocol, StandFor, IsCommitOf}
 use Rattle.table_store.specs.Conflicts.{applications_written, domain_in, domains_written, path_in, paths_written, Candidate, Conflicts, ReadsItsOwn}
@@ -36,10 +36,10 @@ applications_told schema entry made stand =
     ∙ sym (map-map (λ (n : List ℕ × ℕ). n.0) (λ (t : TxnAction). (t.app_id, t.version)) (filter_map txn_in made))
     ∙ ap (map (λ (n : List ℕ × ℕ). n.0)) (sym (numbers-without_commit_info made) ∙ numbers_of_entry schema entry (without_commit_info made) stand)
     ∙ map-map (λ (n : List ℕ × ℕ). n.0) named (batches_of entry)
-    ∙ sym (ap (map (λ (t : Told). t.application)) (tells-batches entry) ∙ map-map (λ (t : Told). t.application) told_of (batches_of entry))
+    ∙ sym (ap (map (λ (t : ToldNumber). t.application)) (tells-batches entry) ∙ map-map (λ (t : ToldNumber). t.application) told_of (batches_of entry))
 
 -- the keys of the files that a group adds
-keys_told : (ns : List (List ℕ × ℕ)) (bs : List Batch) (files : List AddAction) → ns ≡ map named bs → AreFilesOf ns files → map (λ a. a.path.key) files ≡ map path_name (map (λ f. f.path) (map file_of bs))
+keys_told : (ns : List (List ℕ × ℕ)) (bs : List Batch) (files : List AddAction) → ns ≡ map named bs → AreFilesOf ns files → map (λ a. a.path.key) files ≡ map path_name (map (λ f. f.path) (map batch_file bs))
 keys_told [] [] [] is are = refl
 keys_told [] [] (file ∷ files) is are = absurd are
 keys_told [] (b ∷ bs) files is are = absurd cc
@@ -182,7 +182,7 @@ module _ (objects : Objects) (version : ℕ) (won : List ℕ) (winner : List act
         wrote_last : (application : List ℕ) → Contains (writes last) application → Contains (applications_written candidate.actions) application
         wrote_last application among = subst (λ (seen : List (List ℕ)). Contains seen application) (sym (applications_told schema last candidate.actions stand)) among
 
-        among_names : (entry : Entry) (made : List actions.Action) → StandFor schema entry (without_commit_info made) → (path : Path) → Contains (names entry) path → Contains (map (λ p. p.key) (paths_written made)) (path_name path)
+        among_names : (entry : Entry) (made : List actions.Action) → StandFor schema entry (without_commit_info made) → (path : FileName) → Contains (names entry) path → Contains (map (λ p. p.key) (paths_written made)) (path_name path)
         among_names entry made stand path among = subst (λ (keys : List (List ℕ)). Contains keys (path_name path)) (sym (names_told schema entry made stand)) (Contains-map path_name (names entry) path among)
 
     module _ (bytes : List ℕ) (made : IsCommit bytes candidate.actions) (lawful : IsLawfulStore objects) where

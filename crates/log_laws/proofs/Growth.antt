@@ -7,7 +7,7 @@ use Rattle.std.proofs.lemmas.List.Folds.{list_any-append}
 use Rattle.store_core.specs.Objects.{Objects, HasObjectsOf}
 use Rattle.store_core.specs.Names.{commit_name}
 use Rattle.table_model.specs.Lawful.{IsLawful, Rises}
-use Rattle.table_model.specs.Table.{Told, Entry, closes_of, is_stream_closed, last_told, numbers_by}
+use Rattle.table_model.specs.Table.{ToldNumber, Entry, closes_of, is_stream_closed, last_told, numbers_by}
 use Rattle.table_model.proofs.Callers.{Rises-back, below_later, last_told-append, last_number, last_some, numbers_by-append}
 use Rattle.table_store.specs.Holds.{Holds, HoldsFirst, Lacks}
 use Rattle.table_store.specs.Schema.{Schema}
@@ -81,17 +81,17 @@ closed_kept application entries later closed =
     ∙ first_true (is_stream_closed application entries) (is_stream_closed application later) closed
 
 -- an application's last number doesn't fall
-abbrev pub NotBelow : List ℕ → Told → List Entry → Type 0
-NotBelow application t entries = (u : Told) × (last_told application entries ≡ Some u) × (t.number ≤ u.number)
+abbrev pub NotBelow : List ℕ → ToldNumber → List Entry → Type 0
+NotBelow application t entries = (u : ToldNumber) × (last_told application entries ≡ Some u) × (t.number ≤ u.number)
 
-pub number_kept : (application : List ℕ) (t : Told) (entries later : List Entry) → IsLawful (entries ++ later) → last_told application entries ≡ Some t → NotBelow application t (entries ++ later)
+pub number_kept : (application : List ℕ) (t : ToldNumber) (entries later : List Entry) → IsLawful (entries ++ later) → last_told application entries ≡ Some t → NotBelow application t (entries ++ later)
 number_kept application t entries later lawful is = by_last (last_told application later) refl
   where
     -- the last number of some entries
-    ends_with : (u : Told) (some : List Entry) → last_told application some ≡ Some u → (before : List ℕ) × (numbers_by application some ≡ before ++ u.number ∷ [])
-    ends_with u some last_is = last_some (numbers_by application some) u.number (last_number application some ∙ ap (option_map (λ (v : Told). v.number)) last_is)
+    ends_with : (u : ToldNumber) (some : List Entry) → last_told application some ≡ Some u → (before : List ℕ) × (numbers_by application some ≡ before ++ u.number ∷ [])
+    ends_with u some last_is = last_some (numbers_by application some) u.number (last_number application some ∙ ap (option_map (λ (v : ToldNumber). v.number)) last_is)
 
-    rises : (u : Told) → last_told application later ≡ Some u → t.number < u.number
+    rises : (u : ToldNumber) → last_told application later ≡ Some u → t.number < u.number
     rises u last_is =
         let one = ends_with t entries is in
         let two = ends_with u later last_is in
@@ -99,6 +99,6 @@ number_kept application t entries later lawful is = by_last (last_told applicati
         let from : (one.0 ++ t.number ∷ []) ++ (two.0 ++ u.number ∷ []) ≡ one.0 ++ (t.number ∷ (two.0 ++ u.number ∷ [])) = append_assoc one.0 (t.number ∷ []) (two.0 ++ u.number ∷ []) in
         below_later t.number two.0 u.number [] (Rises-back one.0 (t.number ∷ (two.0 ++ u.number ∷ [])) (subst Rises (all ∙ from) (lawful.rises application)))
 
-    by_last : (found : Option Told) → last_told application later ≡ found → NotBelow application t (entries ++ later)
+    by_last : (found : Option ToldNumber) → last_told application later ≡ found → NotBelow application t (entries ++ later)
     by_last None none = (t, last_told-append application entries later ∙ rw (none, is) refl, omega arith)
     by_last (Some u) last_is = (u, last_told-append application entries later ∙ rw last_is refl, let above = rises u last_is in omega (arith, above))

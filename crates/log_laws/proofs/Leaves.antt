@@ -1,17 +1,19 @@
 -- What the log of a sound store leaves, read whole or from a checkpoint on.
-use Rattle.std.proofs.Common.{◌≡◌, ◌∙◌, ℕ, suc, Bool, true, false, List, [], ◌∷◌, map, length, Result, Ok, Err, refl, sym, ap, subst, add-one, arith}
+use Rattle.std.proofs.Common.{◌≡◌, ◌∙◌, ℕ, suc, Bool, true, false, List, [], ◌∷◌, map, length, Contains, Some, Result, Ok, Err, refl, sym, ap, subst, add-one, arith}
 use Rattle.std.specs.Str.{IsUtf8}
-use Rattle.std.specs.Prelude.{option_map}
+use Rattle.std.specs.Prelude.{option_map, ◌↔◌}
 use Rattle.store_core.specs.Objects.{Objects}
 use Rattle.delta_actions.specs.Action as actions
 use Rattle.delta_replay.specs.Closes as logs
-use Rattle.delta_replay.specs.Keys.{Key, at, last_number}
+use Rattle.delta_actions.specs.Action.{AddAction, add}
+use Rattle.delta_replay.specs.Keys.{Key, at, file_of, last_number}
 use Rattle.delta_replay.specs.Support.{readable, writable}
 use Rattle.table_log.specs.Counts.{commit_count}
 use Rattle.table_log.specs.Restoring.{AreAlike, RestoresWell, replayed}
 use Rattle.table_log.specs.Versions.{commit, commits_of, log_of, versions_from, versions_of}
 use Rattle.table_log.proofs.Callers.{of_commit, same_values, replayed_alike, well_sound}
 use Rattle.table_model.specs.Lawful.{Begins}
+use Rattle.table_model.specs.Live.{live}
 use Rattle.table_model.specs.Table.{Entry, creation, group, close, is_stream_closed, last_told}
 use Rattle.table_store.specs.Holds.{Holds, HoldsFrom}
 use Rattle.table_store.specs.Logs.{IsLog, LogFrom}
@@ -22,6 +24,7 @@ use Rattle.log_laws.specs.Sound.{IsSoundStore}
 use Rattle.log_laws.proofs.Growth.{lawful_table, sound_table}
 use Rattle.log_laws.proofs.LogCloses.{log_closed, log_open}
 use Rattle.log_laws.proofs.LogEntries.{are_made, held_first, made_length, made_of, some_commits, sound_count}
+use Rattle.log_laws.proofs.LogFiles.{log_files, names_of_files}
 use Rattle.log_laws.proofs.LogNumbers.{log_last}
 use Rattle.log_laws.proofs.LogSchema.{log_readable, one_writable}
 
@@ -103,6 +106,10 @@ module _ (objects : Objects) (schema : Schema) (entries : List Entry) (holds : H
 
   pub open_left : (commits : List (List actions.Action)) (application : List ℕ) → IsLog objects commits → logs.is_closed application commits ≡ false → is_stream_closed application entries ≡ false
   open_left commits application log opened = log_open objects schema application entries commits (made_by_log commits log) opened
+
+  -- A file is left just where its name is that of one that the table's entries leave.
+  pub files_left : (commits : List (List actions.Action)) (name : List ℕ) → IsLog objects commits → ((a : AddAction) × (at (file_of name) commits ≡ Some (add a))) ↔ Contains (names_of_files (live entries)) name
+  files_left commits name log = log_files objects schema name entries commits (made_by_log commits log)
 
 -- by entries that begin with their creation
 pub read_by : (objects : Objects) (schema : Schema) (entries : List Entry) (first : List actions.Action) (commits : List (List actions.Action)) → Begins entries → AreMadeFor objects schema entries (first ∷ commits)

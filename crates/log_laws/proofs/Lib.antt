@@ -11,6 +11,7 @@ mod Leaves
 mod LoadTalks
 mod LogCloses
 mod LogEntries
+mod LogFiles
 mod LogNewest
 mod LogNumbers
 mod LogSchema

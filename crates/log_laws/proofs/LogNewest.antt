@@ -19,12 +19,12 @@ use Rattle.table_store.proofs.LawfulLogLemmas.{AreMadeFor}
 -- ---- the last of what there is
 
 -- where nothing else is there
-or_none : {A : Type 0} (a : Option A) → option_or a None ≡ a
+pub or_none : {A : Type 0} (a : Option A) → option_or a None ≡ a
 or_none None = refl
 or_none (Some x) = refl
 
 -- the first of what there is, whichever two are asked first
-or_regroup : {A : Type 0} (a b c : Option A) → option_or a (option_or b c) ≡ option_or (option_or a b) c
+pub or_regroup : {A : Type 0} (a b c : Option A) → option_or a (option_or b c) ≡ option_or (option_or a b) c
 or_regroup None b c = refl
 or_regroup (Some x) b c = refl
 

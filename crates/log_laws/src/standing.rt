@@ -4,7 +4,7 @@ ghost use Rattle.std.specs.Prelude.{◌≡◌, ◌≤◌, ℕ, List, [], ◌∷�
 ghost use Rattle.store_core.specs.Objects.{Objects, HasObjectsOf};
 ghost use Rattle.table_model.specs.Appends.{TellsAppend, TellsClose};
 ghost use Rattle.table_model.specs.Reads.{is_offset, position};
-ghost use Rattle.table_model.specs.Table.{Batch, Told, Entry, batches, is_stream_closed, last_told};
+ghost use Rattle.table_model.specs.Table.{Batch, ToldNumber, Entry, batches, is_stream_closed, last_told};
 ghost use Rattle.table_model.specs.declared.reading.Offset.{Offset};
 ghost use Rattle.table_model.specs.declared.table.AppendAnswer.{AppendAnswer};
 ghost use Rattle.table_model.specs.declared.table.Closing.{Closing};
@@ -40,7 +40,7 @@ pub fn what_a_sound_table_has_stays()
         → Holds more other others → TellsAppend answer b entries → TellsAppend answer b others }
     ensures close { (objects more : Objects) (schema other : Schema) (entries others : List Entry) (answer : Closing) (application : List ℕ) → IsSoundStore objects → HasObjectsOf objects more → Holds objects schema entries
         → Holds more other others → TellsClose answer application entries → TellsClose answer application others }
-    ensures number { (objects more : Objects) (schema other : Schema) (entries others : List Entry) (t : Told) → IsSoundStore objects → IsSoundStore more → HasObjectsOf objects more → Holds objects schema entries
+    ensures number { (objects more : Objects) (schema other : Schema) (entries others : List Entry) (t : ToldNumber) → IsSoundStore objects → IsSoundStore more → HasObjectsOf objects more → Holds objects schema entries
         → Holds more other others → last_told t.application entries ≡ Some t
-        → (u : Told) × (last_told t.application others ≡ Some u) × (t.number ≤ u.number) }
+        → (u : ToldNumber) × (last_told t.application others ≡ Some u) × (t.number ≤ u.number) }
 {}

@@ -1,5 +1,5 @@
 -- A store that keeps a table has the files that its commits bring.
-use Rattle.std.proofs.Common.{◌≡◌, ◌<◌, ◌∙◌, ℕ, zero, suc, List, [], ◌∷◌, length, map, slice_index_or, Contains, Option, Some, None, IsSome, Result, Ok, Err, refl, sym, ap, subst, arith}
+use Rattle.std.proofs.Common.{◌≡◌, ◌<◌, ◌∙◌, ℕ, zero, suc, List, [], ◌∷◌, length, map, slice_index_or, Contains, Option, Some, None, IsSome, Ok, refl, sym, ap, subst, arith}
 use Rattle.std.specs.Prelude.{slice_get}
 use Rattle.store_core.specs.Objects.{Objects, object_at}
 use Rattle.delta_actions.specs.Action.{Action}
@@ -7,11 +7,11 @@ use Rattle.delta_actions.specs.Kinds.{PathAndKey}
 use Rattle.outcomes.specs.Results.{◌>>=◌, or_refusal}
 use Rattle.row_core.specs.Rows.{Row}
 use Rattle.schema_tree.specs.Tree.{Tree}
-use Rattle.table_log.specs.Versions.{Version, commit, versions_of}
+use Rattle.table_log.specs.Versions.{Version, commit}
 use Rattle.table_model.specs.Table.{Entry}
 use Rattle.source_core.specs.Groups.{new_files}
-use Rattle.source_core.specs.SourceSessions.{HasNewFiles, IsNewFile}
-use Rattle.source_core.specs.Tailing.{ReadRefusal, file_rows, missing_file, or_bad_file, LogFile}
+use Rattle.source_core.specs.SourceSessions.{HasNewFiles}
+use Rattle.source_core.specs.Tailing.{file_rows, missing_file, or_bad_file}
 use Rattle.source_core.proofs.Callers.{AreEntriesFound, AreFilesFound}
 use Rattle.source_core.specs.ParquetReading.{rows_at}
 use Rattle.read_laws.specs.Kept.{KeepsTable}

@@ -4,7 +4,6 @@ use Rattle.std.proofs.lemmas.List.Sums.{sum_by-cons}
 use Rattle.store_core.specs.Objects.{Objects}
 use Rattle.outcomes.specs.Outcome.{IsSaid}
 use Rattle.outcomes.specs.Results.{◌>>=◌}
-use Rattle.row_core.specs.Rows.{Row}
 use Rattle.schema_tree.specs.Tree.{Tree}
 use Rattle.table_model.specs.Reads as answers
 use Rattle.table_model.specs.Reads.{Answer, beyond, bad_place, is_beyond, is_offset, next_offset, rows_from_offset, read, IsPart}

@@ -1,3 +1,4 @@
+pub mod CallEffects
 pub mod Sessions
 pub mod Shown
 pub mod Stores

@@ -1,5 +1,5 @@
 -- Where a session goes with an answer, and what became of one that was driven over a store.
-use Rattle.std.specs.Prelude.{◌≡◌, ◌<◌, ◌≤◌, ℕ, ◌+◌, List, [], ◌∷◌, ◌++◌, length, Bool, true, false, Option, None, Some}
+use Rattle.std.specs.Prelude.{◌≡◌, ◌<◌, ◌≤◌, ℕ, ◌+◌, [], ◌∷◌, ◌++◌, length, Bool, true, false, Option, None, Some}
 use Rattle.session_core.specs.Stores.{State, Answers, MayAnswer, Talked}
 use Rattle.session_core.specs.Talks.{Asked, Told, Talk, Kind, asked_view, heard, has_lost, is_lost, kind_of, Bears, CountsTalk}
 use Rattle.session_core.specs.declared.session.Step.{Step}

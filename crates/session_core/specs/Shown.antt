@@ -1,5 +1,5 @@
 -- What a talk shows of a store that is at rest meanwhile.
-use Rattle.std.specs.Prelude.{◌≡◌, List, [], ◌∷◌, IsSome}
+use Rattle.std.specs.Prelude.{◌≡◌, [], ◌∷◌, IsSome}
 use Rattle.store_core.specs.Objects.{Objects, names_of, object_at}
 use Rattle.session_core.specs.Talks.{Asked, list_names, get_object, Told, told_names, told_object, Talk, IsBorne}
 

@@ -1,5 +1,5 @@
 -- What stores answer, and what a talk leaves of one.
-use Rattle.std.specs.Prelude.{◌≡◌, ◌⊎◌, ℕ, List, [], ◌∷◌, Contains, Option, Some, None}
+use Rattle.std.specs.Prelude.{◌≡◌, ◌⊎◌, ℕ, List, [], ◌∷◌, Contains, None}
 use Rattle.store_core.specs.Calls.{Flight, HasLanded, IsUntouched, MayHaveLanded, StandsAfter, put_told}
 use Rattle.store_core.specs.Objects.{Objects, HasObjectsOf, names_of, object_at}
 use Rattle.store_core.specs.declared.store.Put.TheVariants.{Created}

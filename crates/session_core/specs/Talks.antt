@@ -1,5 +1,5 @@
 -- What was asked of a store and told, in order: the talk of a session.
-use Rattle.std.specs.Prelude.{◌≡◌, ℕ, List, [], ◌∷◌, ◌++◌, map, Bool, true, false, Option, Some, None, IsSome, option_map, Contains, string_bytes}
+use Rattle.std.specs.Prelude.{◌≡◌, ℕ, List, [], ◌∷◌, ◌++◌, Bool, true, false, Option, Some, None, IsSome, option_map, Contains, string_bytes}
 use Rattle.std.specs.List.{list_any}
 use Rattle.store_core.specs.Calls.{HasRisen, StandsAfter}
 use Rattle.store_core.specs.Listed.{listed}

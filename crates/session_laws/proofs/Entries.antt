@@ -1,54 +1,31 @@
 -- Which entries of a table stand in a store, and the files of their batches.
 use Rattle.std.proofs.Common.{◌≡◌, ◌∙◌, ◌<◌, ◌≤◌, ◌+◌, ℕ, zero, suc, List, [], ◌∷◌, length, slice_get, Option, Some, None, Contains, inl, inr, refl, sym, ap, subst, arith}
-use Rattle.std.specs.List.{AllByRecursion, flat_map}
 use Rattle.std.proofs.lemmas.Bool.{cases_lt}
-use Rattle.std.proofs.lemmas.List.Elements.{Contains-append_cases, Contains-push_cases}
+use Rattle.std.proofs.lemmas.List.Elements.{Contains-append_cases}
 use Rattle.store_core.specs.Objects.{Objects, object_at}
 use Rattle.delta_actions.specs.Action as actions
 use Rattle.delta_actions.specs.Commit.{IsCommit}
 use Rattle.store_core.specs.Names.{commit_name, greatest_version}
-use Rattle.table_model.specs.Table.{Batch, Told, Entry, batches, batches_of, tells, told_of}
-use Rattle.table_model.proofs.Callers.{Contains-map, told-batches}
+use Rattle.table_model.specs.Table.{Batch, Entry, batches, batches_of}
+use Rattle.table_model.proofs.Callers.{each_has}
 use Rattle.table_store.specs.Commits.{IsCommitOf, StandFor, without_commit_info}
 use Rattle.table_store.specs.Holds.{FileStands, FilesStand, Holds, HoldsFrom, HoldsFirst, Stands}
 use Rattle.table_store.specs.Schema.{Schema}
 use Rattle.table_store.specs.Sound.{IsSound}
 use Rattle.table_store.proofs.Callers.{batch_files}
 use Rattle.table_store.proofs.HoldingOne.{one_commit, one_entry, some_is}
-use Rattle.commit_core.proofs.Callers.{count_held, member_mapped, sound_count}
+use Rattle.commit_core.proofs.Callers.{count_held, sound_count}
 
 -- ---- files
-
--- of members that all have a property each one has it
-all_has : {A : Type 0} (P : A → Type 0) (xs : List A) (x : A) → AllByRecursion P xs → Contains xs x → P x
-all_has P [] x all has = absurd (omega (arith, has.1))
-all_has {A = A} P (y ∷ xs) x all has =
-    elim (Contains-append_cases (y ∷ []) xs x has) [
-      | inl here ↦ elim (Contains-push_cases [] y x here) [
-        | inl none ↦ absurd (omega (arith, none.1))
-        | inr same ↦ subst P same all.0
-      ]
-      | inr later ↦ all_has P xs x all.1 later
-    ]
 
 -- the file of each batch stands
 pub batch_file : (objects : Objects) (schema : Schema) (version : ℕ) (entries : List Entry) (b : Batch) → HoldsFirst objects schema version entries → Contains (batches entries) b → FileStands objects schema b
 batch_file objects schema version [] b stand has = absurd (omega (arith, has.1))
 batch_file objects schema version (entry ∷ entries) b stand has =
     elim (Contains-append_cases (batches_of entry) (batches entries) b has) [
-      | inl here ↦ all_has (FileStands objects schema) (batches_of entry) b (batch_files objects schema entry stand.1) here
+      | inl here ↦ each_has (FileStands objects schema) (batches_of entry) b (batch_files objects schema entry stand.1) here
       | inr later ↦ batch_file objects schema (suc version) entries b stand.3 later
     ]
-
--- ---- numbers
-
--- what a batch tells is told in the table
-pub batch_told : (entries : List Entry) (b : Batch) → Contains (batches entries) b → Contains (flat_map tells entries) (told_of b)
-batch_told entries b has = subst (λ (ts : List Told). Contains ts (told_of b)) (sym (told-batches entries)) (Contains-map told_of (batches entries) b has)
-
--- and what is told there, a batch tells
-pub told_batch : (entries : List Entry) (t : Told) → Contains (flat_map tells entries) t → (b : Batch) × Contains (batches entries) b × (told_of b ≡ t)
-told_batch entries t told = member_mapped told_of (batches entries) t (subst (λ (ts : List Told). Contains ts t) (told-batches entries) told)
 
 -- ---- versions
 

@@ -14,7 +14,7 @@ use Rattle.table_model.specs.Appends.{TellsClose}
 use Rattle.table_model.specs.Table.{Batch, Entry, batches, close, group}
 use Rattle.table_model.specs.declared.table.AppendAnswer.TheVariants as appended
 use Rattle.table_model.specs.declared.table.Closing.TheVariants as closed
-use Rattle.table_model.proofs.Callers.{batch_lasts}
+use Rattle.table_model.proofs.Callers.{batch_lasts, batch_told}
 use Rattle.table_store.specs.Holds.{FileStands, Holds, Stands}
 use Rattle.table_store.specs.Schema.{Schema, IsFileOf}
 use Rattle.table_store.proofs.Callers.{files_stand}
@@ -33,7 +33,7 @@ use Rattle.sink_core.specs.SinkSessions.{AnswerEnds, InRace, SinkAsks, SinkJob, 
 use Rattle.sink_core.specs.declared.sink_state.SinkOutcome.TheVariants.{Already, AlreadyClosed, Closed, Committed}
 use Rattle.sink_core.proofs.ReachLemmas.{reaches_reads}
 use Rattle.session_laws.specs.Rows.{TellsOfBatch}
-use Rattle.session_laws.proofs.Entries.{batch_file, batch_told, has_entry}
+use Rattle.session_laws.proofs.Entries.{batch_file, has_entry}
 use Rattle.session_laws.proofs.Files.{same_file}
 use Rattle.session_laws.proofs.Fronts.{IsFrontOf, reached_front}
 use Rattle.session_laws.proofs.Ready.{batch_by, file_named, ready_batch, ruled_batch}

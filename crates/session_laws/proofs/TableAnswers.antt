@@ -8,17 +8,16 @@ use Rattle.delta_actions.specs.Action.{Action}
 use Rattle.delta_replay.specs.Closes as logs
 use Rattle.delta_replay.specs.Support.{writable}
 use Rattle.table_model.specs.Appends.{TellsAppend, TellsClose, appended, closing, with_batch, with_close}
-use Rattle.table_model.specs.Table.{Batch, Told, Entry, batches, is_stream_closed, last_told}
+use Rattle.table_model.specs.Table.{Batch, ToldNumber, Entry, batches, is_stream_closed, last_told}
 use Rattle.table_model.specs.declared.table.AppendAnswer.{AppendAnswer}
 use Rattle.table_model.specs.declared.table.AppendAnswer.TheVariants.{Committed, Stale, StreamClosed}
 use Rattle.table_model.specs.declared.table.Closing.TheVariants.{AlreadyClosed}
-use Rattle.table_model.proofs.Callers.{append_lasts, close_lasts, last_stands}
+use Rattle.table_model.proofs.Callers.{append_lasts, close_lasts, last_stands, told_batch}
 use Rattle.table_model.proofs.Facts.{append_tells, close_tells}
 use Rattle.table_store.specs.Schema.{Schema}
 use Rattle.commit_core.proofs.Callers.{log_closed, log_last, log_open, written_by}
 use Rattle.batch_core.specs.Refusals.{SinkRefusal, stale, stream_closed}
 use Rattle.batch_core.specs.Requests.{is_repeat, numbered_behind}
-use Rattle.session_laws.proofs.Entries.{told_batch}
 use Rattle.session_laws.proofs.Fronts.{IsFrontOf}
 
 -- ---- numbers
@@ -35,11 +34,11 @@ never_new (Err why) is = absurd cc
 
 module _ (b : Batch) where
   -- the rules of numbers, over what was told last of the application
-  abbrev rule : (last : Option Told) (closed : Bool) → Result Bool SinkRefusal
+  abbrev rule : (last : Option ToldNumber) (closed : Bool) → Result Bool SinkRefusal
   rule last closed = behind closed (is_repeat b.number (option_map (λ t. t.number) last))
 
   -- in front of a close nothing is refused for it
-  never_closed : (last : Option Told) → rule last false ≡ Err stream_closed → ⊥
+  never_closed : (last : Option ToldNumber) → rule last false ≡ Err stream_closed → ⊥
   never_closed None is = absurd cc
   never_closed (Some before) is = by_tests (ltb b.number before.number) (eqb b.number before.number) is
     where
@@ -49,13 +48,13 @@ module _ (b : Batch) where
       by_tests false false told = absurd cc
 
   -- a number that is the last one again
-  again_last : (last : Option Told) (closed : Bool) → rule last closed ≡ Ok true → (before : Told) × (last ≡ Some before) × (before.number ≡ b.number)
+  again_last : (last : Option ToldNumber) (closed : Bool) → rule last closed ≡ Ok true → (before : ToldNumber) × (last ≡ Some before) × (before.number ≡ b.number)
   again_last None true is = absurd cc
   again_last None false is = absurd cc
   again_last (Some before) closed is = by_tests (ltb b.number before.number) (eqb b.number before.number) refl is
     where
       by_tests : (below equal : Bool) → eqb b.number before.number ≡ equal → behind closed (cond below (Err (stale before.number)) (Ok equal)) ≡ Ok true
-          → (t : Told) × (◌≡◌ {A = Option Told} (Some before) (Some t)) × (t.number ≡ b.number)
+          → (t : ToldNumber) × (◌≡◌ {A = Option ToldNumber} (Some before) (Some t)) × (t.number ≡ b.number)
       by_tests true equal same told = absurd cc
       by_tests false true same told = (before, refl, sym (eqb-true b.number before.number same))
       by_tests false false same told = absurd (by_closed closed told)
@@ -66,7 +65,7 @@ module _ (b : Batch) where
 
 module _ (b : Batch) (entries : List Entry) where
   -- a number that is new is taken
-  new_taken : (last : Option Told) → last_told b.application entries ≡ last → is_stream_closed b.application entries ≡ false → rule b last false ≡ Ok false → appended b entries ≡ Committed (length entries)
+  new_taken : (last : Option ToldNumber) → last_told b.application entries ≡ last → is_stream_closed b.application entries ≡ false → rule b last false ≡ Ok false → appended b entries ≡ Committed (length entries)
   new_taken None is goes_on new = rw (is, goes_on) refl
   new_taken (Some before) is goes_on new = by_tests (ltb b.number before.number) (eqb b.number before.number) refl refl new
     where
@@ -77,7 +76,7 @@ module _ (b : Batch) (entries : List Entry) where
       by_tests false false over other taken = rw (is, over, other, goes_on) refl
 
   -- one below the last is stale
-  stale_told : (last : Option Told) (closed : Bool) (number : ℕ) → last_told b.application entries ≡ last → rule b last closed ≡ Err (stale number) → appended b entries ≡ Stale number
+  stale_told : (last : Option ToldNumber) (closed : Bool) (number : ℕ) → last_told b.application entries ≡ last → rule b last closed ≡ Err (stale number) → appended b entries ≡ Stale number
   stale_told None true number is told = absurd cc
   stale_told None false number is told = absurd cc
   stale_told (Some before) closed number is told = by_tests (ltb b.number before.number) (eqb b.number before.number) refl refl told
@@ -92,7 +91,7 @@ module _ (b : Batch) (entries : List Entry) where
       by_tests false equal over same wrong = absurd (by_closed equal (not equal && closed) wrong)
 
   -- a new one behind the close of its stream isn't taken
-  closed_told : (last : Option Told) → last_told b.application entries ≡ last → is_stream_closed b.application entries ≡ true → rule b last true ≡ Err stream_closed → appended b entries ≡ StreamClosed
+  closed_told : (last : Option ToldNumber) → last_told b.application entries ≡ last → is_stream_closed b.application entries ≡ true → rule b last true ≡ Err stream_closed → appended b entries ≡ StreamClosed
   closed_told None is shut told = rw (is, shut) refl
   closed_told (Some before) is shut told = by_tests (ltb b.number before.number) (eqb b.number before.number) refl refl told
     where
@@ -112,15 +111,15 @@ pub record HasBatch (application : List ℕ) (number : ℕ) (entries : List Entr
   pub number_is : batch.number ≡ number
 
 -- that of the number that was told last
-last_has : (application : List ℕ) (number : ℕ) (entries : List Entry) (last : Told) → last_told application entries ≡ Some last → last.number ≡ number → HasBatch application number entries
+last_has : (application : List ℕ) (number : ℕ) (entries : List Entry) (last : ToldNumber) → last_told application entries ≡ Some last → last.number ≡ number → HasBatch application number entries
 last_has application number entries last is same =
     let told = last_stands application entries last is in
     let found = told_batch entries last told.0 in
     record {
       batch = found.0;
       stands = found.1;
-      application_is = ap (λ (t : Told). t.application) found.2 ∙ told.1;
-      number_is = ap (λ (t : Told). t.number) found.2 ∙ same;
+      application_is = ap (λ (t : ToldNumber). t.application) found.2 ∙ told.1;
+      number_is = ap (λ (t : ToldNumber). t.number) found.2 ∙ same;
     }
 
 -- ---- the first commits of a log
@@ -135,7 +134,7 @@ module _ (objects : Objects) (schema : Schema) (entries : List Entry) (next : �
   batch_lasts_on b answer told = subst (TellsAppend answer b) (sym front.split) (append_lasts answer b front.firsts front.later told)
 
   module _ (b : Batch) where
-    abbrev last_one : Option Told
+    abbrev last_one : Option ToldNumber
     last_one = last_told b.application front.firsts
 
     rule_is : numbered_behind log b.application b.number ≡ rule b last_one (logs.is_closed b.application log)

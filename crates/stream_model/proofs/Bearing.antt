@@ -6,7 +6,8 @@ use Rattle.session_core.specs.Talks.{Asked, Bears, IsBorne, Talk, Told, told_los
 use Rattle.session_core.proofs.Callers.{bears_grows, borne_grows}
 use Rattle.session_laws.specs.Jobs.{Ends, Job, Outcome, checkpoint, checkpoints, creates, creation, load, loads, read, reads, stream, streams}
 use Rattle.stream_model.specs.Events.{ComesToTalk, Event, Happens, acts, begins, begins_now, dies, ends, goes_on, lands, loses, nothing_happens, takes}
-use Rattle.stream_model.specs.Worlds.{Actor, BearsActor, BearsActors, BearsHand, Hand, How, KnowsFront, World, asking, ended, fresh, late, left_by_call, left_how, lost, once, short, told_how, twice, waiting, with_actor}
+use Rattle.session_core.specs.CallEffects.{left_by_call}
+use Rattle.stream_model.specs.Worlds.{Actor, BearsActor, BearsActors, BearsHand, Hand, How, KnowsFront, World, asking, ended, fresh, late, left_how, lost, once, short, told_how, twice, waiting, with_actor}
 use Rattle.stream_model.proofs.Calls.{lost_borne, memory_borne, told_borne}
 use Rattle.stream_model.proofs.Landing.{put_grew}
 use Rattle.stream_model.proofs.Running.{how_grew}

@@ -25,7 +25,8 @@ use Rattle.session_laws.proofs.Callers.{batch_commit, close_commit, reached_fron
 use Rattle.stream_model.specs.Events.{Event, IsOfBytes}
 use Rattle.stream_model.specs.Puts.{HasTable, IsGoodPut, IsCommitMade, Submitted, WasBegun, a_checkpoint, a_commit, a_file}
 use Rattle.stream_model.specs.Puts as made
-use Rattle.stream_model.specs.Worlds.{IsBegunAs, told_by_call, left_by_call}
+use Rattle.session_core.specs.CallEffects.{left_by_call, told_by_call}
+use Rattle.stream_model.specs.Worlds.{IsBegunAs}
 use Rattle.stream_model.proofs.Begun.{batch_begun}
 
 -- ---- what is asked for
@@ -47,13 +48,20 @@ module _ (events : List Event) (objects : Objects) (schema : Schema) (entries : 
       by_firsts [] later split long held = absurd (omega (arith, long))
       by_firsts (first ∷ rest) later split long held = (first, rest ++ later, subst (Holds objects schema) split held)
 
-  module _ (job : SinkJob) (load : LoadJob) (submitted : Submitted events job) (well : IsValidJob (streams job)) (before talk : Talk) (earlier : Bears objects before) (borne : Bears objects talk) where
+  module _ (job : SinkJob) (load : LoadJob) (begun : WasBegun events (streams job)) (well : IsValidJob (streams job)) (before talk : Talk) (earlier : Bears objects before) (borne : Bears objects talk) where
     -- the job with what its session knew of the log
     abbrev job_begun : SinkJob
     job_begun = record job { load = load }
 
     same_number : (number other : ℕ) (items others : Items) → appends number items ≡ appends other others → number ≡ other
     same_number number other items others is = cc
+
+    -- it is an item of itself
+    own_item : Contains (job ∷ []) job
+    own_item = (0, omega arith, refl)
+
+    submitted : Submitted events job
+    submitted = (streams job, begun, own_item)
 
     -- what its commit holds
     commit_made : HasTable objects schema → (version : ℕ) (bytes : List ℕ) → IsJobCommit objects schema job_begun bytes → IsCommitMade events objects version bytes
@@ -67,7 +75,7 @@ module _ (events : List Event) (objects : Objects) (schema : Schema) (entries : 
             let reads : IsCommit bytes (batch_actions b.application b.number job.at (length file.0) (length b.rows)) =
             subst (λ (n : ℕ). IsCommit bytes (batch_actions b.application n job.at (length file.0) (length b.rows))) number_is
             (subst (λ (a : List ℕ). IsCommit bytes (batch_actions a number job.at (length file.0) (length b.rows))) (sym of_job.application) file.2.1.1) in
-            made.appends schema job b table submitted own (batch_commit schema b job.at (length file.0) bytes reads) (file.0, file.1, file.2.0)
+            made.appends schema (streams job) (b ∷ []) table begun ((job, own_item, own), tt) (batch_commit schema b job.at (length file.0) bytes reads) ((file.0, file.1, file.2.0), tt)
         by_task closes is text = made.closes schema job submitted is (close_commit schema job.application job.at bytes well.0 text.1)
 
     stream_good : (asked : Asked) → SinkAsks job_begun before talk asked → MayAsk objects schema (streams job_begun) talk asked → IsOfBytes asked → IsGoodCall events objects asked

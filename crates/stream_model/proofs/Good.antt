@@ -22,7 +22,6 @@ use Rattle.table_store.proofs.HoldingGrown.{front, same_schema}
 use Rattle.batch_core.specs.declared.fault.SinkFault.{SinkFault}
 use Rattle.batch_core.specs.declared.fault.SinkFault.TheVariants as faults
 use Rattle.sink_core.specs.SinkSessions.{SinkJob}
-use Rattle.sink_core.specs.declared.sink_state.SinkEnd.{SinkEnd}
 use Rattle.sink_core.specs.declared.sink_state.SinkOutcome.{SinkOutcome}
 use Rattle.sink_core.specs.declared.sink_state.SinkOutcome.TheVariants.{Already, AlreadyClosed, Closed, Committed}
 use Rattle.session_laws.specs.Rows.{IsBatchOf, TellsOfBatch}
@@ -32,10 +31,10 @@ use Rattle.log_rows.specs.declared.read_state.ReadRows.{ReadRows}
 use Rattle.log_rows.specs.declared.tail_fault.TailFault.{TailFault}
 use Rattle.source_core.specs.declared.source_session.ReadEnd.{ReadEnd}
 use Rattle.row_core.specs.Views.{row_views}
-use Rattle.session_laws.specs.Jobs.{Asks, Job, Outcome, read, reads, stream, streams}
+use Rattle.session_laws.specs.Jobs.{Asks, Job, Outcome, read, reads}
 use Rattle.session_laws.specs.Moves.{Does, HasAsked, tells}
 use Rattle.stream_model.specs.Events.{Event}
-use Rattle.stream_model.specs.Headline.{IsPartOfTable, IsSoOf}
+use Rattle.stream_model.specs.Headline.{IsPartOfTable, IsSoOf, WasAnswered}
 use Rattle.stream_model.specs.Puts.{IsGoodPut, Submitted, WasBegun}
 use Rattle.stream_model.specs.Worlds.{Actor, Hand, IsBegunAs, World, asking, ended, fresh, waiting}
 use Rattle.stream_model.proofs.Calls.{IsGoodCall}
@@ -70,15 +69,15 @@ AreGoodActors events objects actors = (name : ℕ) (actor : Actor) → actors na
 
 -- what was told is so of the table, whichever a store is said to hold
 abbrev pub IsToldSo : Objects → List (Job × Outcome) → Type 0
-IsToldSo objects outs = (job : SinkJob) (end : SinkEnd) → Contains outs (streams job, stream end) → (schema : Schema) (entries : List Entry) → Holds objects schema entries → IsSoOf schema entries job end.answer
+IsToldSo objects outs = (item : SinkJob) (answer : Result SinkOutcome SinkFault) → WasAnswered outs item answer → (schema : Schema) (entries : List Entry) → Holds objects schema entries → IsSoOf schema entries item answer
 
 -- what reads handed out are parts of it, by its schema
 abbrev pub AreReadSo : Objects → List (Job × Outcome) → Type 0
 AreReadSo objects outs = (job : SourceJob) (end : ReadEnd) → Contains outs (reads job, read end) → (schema : Schema) (entries : List Entry) → Holds objects schema entries → IsPartOfTable schema entries job end.answer
 
--- each job that an outcome was told of was handed in
+-- each append and close of which something was told was handed in
 abbrev pub AreHandedIn : List Event → List (Job × Outcome) → Type 0
-AreHandedIn events outs = (job : SinkJob) (end : SinkEnd) → Contains outs (streams job, stream end) → Submitted events job
+AreHandedIn events outs = (item : SinkJob) (answer : Result SinkOutcome SinkFault) → WasAnswered outs item answer → Submitted events item
 
 pub record IsGoodWorld (events : List Event) (outs : List (Job × Outcome)) (w : World) : Type 0 where
   pub store : IsGoodStore events w.objects
@@ -121,7 +120,7 @@ world_more events event outs w good = record {
   flight = λ put has. let one = good.flight put has in (put_more events event w.objects put.0 put.1 one.0, one.1);
   actors = λ name actor is. actor_more events event w.objects actor (good.actors name actor is);
   told = good.told;
-  handed = λ job end has. submitted_more events event job (good.handed job end has);
+  handed = λ item answer was. submitted_more events event item (good.handed item answer was);
   parts = good.parts;
 }
 
@@ -202,7 +201,7 @@ module _ (laws : AreLaws) (objects more : Objects) (sound : IsSound objects) (st
   so_lasts schema entries held job (Err faults.Memory) so = tt
 
   pub told_lasts : (outs : List (Job × Outcome)) → IsToldSo objects outs → IsToldSo more outs
-  told_lasts outs told = λ job end has schema entries held. so_lasts schema entries held job end.answer (told job end has sound.schema sound.entries sound.holds)
+  told_lasts outs told = λ item answer was schema entries held. so_lasts schema entries held item answer (told item answer was sound.schema sound.entries sound.holds)
 
   part_lasts : (schema : Schema) (entries : List Entry) → Holds more schema entries → (job : SourceJob) (answer : Result ReadRows TailFault) → IsPartOfTable sound.schema sound.entries job answer → IsPartOfTable schema entries job answer
   part_lasts schema entries held job (Err fault) part = tt

@@ -16,7 +16,7 @@ use Rattle.log_laws.specs.Sound.{IsSoundStore}
 use Rattle.session_laws.specs.Rows.{LacksCommit, ListsFirst, got_none, next_after_talk, next_version, none_listed, not_listed}
 use Rattle.session_laws.proofs.Callers.{entry_at, get_next, within_table}
 use Rattle.stream_model.specs.Headline.{ListsCommit}
-use Rattle.stream_model.specs.Worlds.{told_by_call}
+use Rattle.session_core.specs.CallEffects.{told_by_call}
 
 -- ---- what a session was told
 

@@ -1,9 +1,10 @@
 -- What a good put leaves: a sound store, whose data files and whose batches were handed in.
 use Rattle.std.proofs.Common.{◌≡◌, ◌≢◌, ◌⊎◌, ◌∙◌, ℕ, suc, List, [], ◌∷◌, ◌++◌, length, Option, Some, None, true, false, Contains, inl, inr, refl, sym, ap, subst, arith}
 use Rattle.std.specs.Prelude.{bytes_eq, unwrap_or}
+use Rattle.std.specs.List.{AllByRecursion}
 use Rattle.std.proofs.lemmas.Bool.{cases_Bool, false≢true}
 use Rattle.std.proofs.lemmas.Slice.Eq.{bytes_eq-Decides}
-use Rattle.std.proofs.lemmas.List.Elements.{Contains-append_cases, Contains-push_cases}
+use Rattle.std.proofs.lemmas.List.Elements.{Contains-append_cases}
 use Rattle.outcomes.specs.Bytes.{IsBytes}
 use Rattle.store_core.specs.Objects.{AreBytes, HasObjectsOf, Objects, object_at, with_object}
 use Rattle.store_core.specs.ObjectLaws.{object_at-with_object_kept, object_at-with_object_other, object_at-with_object_same, with_object_stands}
@@ -14,24 +15,22 @@ use Rattle.store_core.specs.Names.{commit_name}
 use Rattle.table_log.proofs.Callers.{commit_is_none, data_file_is_none}
 use Rattle.table_model.specs.Lawful.{Begins}
 use Rattle.table_model.specs.Table.{Batch, Entry, batches, batches_of, close, creation, group}
-use Rattle.table_model.proofs.Callers.{batches-append}
+use Rattle.table_model.proofs.Callers.{batches-append, each_has}
 use Rattle.table_store.specs.Commits.{IsClose, IsCommitOf, IsCreation, IsGroupOf, StandFor, without_commit_info}
-use Rattle.table_store.specs.Holds.{FileStands, Holds, HoldsFirst, HoldsFrom, IsFreeIn}
+use Rattle.table_store.specs.Holds.{FileStands, FilesStand, Holds, HoldsFirst, HoldsFrom, IsFreeIn}
 use Rattle.table_store.specs.Schema.{Schema}
 use Rattle.table_store.specs.Sound.{IsAdmissible, IsSound}
-use Rattle.table_store.proofs.Callers.{all_free, commit_name-data_file_name, commit_name-once}
+use Rattle.table_store.proofs.Callers.{all_free, commit_name-data_file_name, commit_name-once, files_stand}
 use Rattle.table_store.proofs.HeldLemmas.{HoldsFirst-end}
 use Rattle.table_store.proofs.HoldingOne.{close_no_creation, one_entry, one_list, one_object}
 use Rattle.table_store.proofs.HoldingSchema.{one_creation_of, one_schema, only_table}
 use Rattle.table_store.proofs.HoldingKept.{Stands-kept}
 use Rattle.table_store.proofs.HoldingPuts.{FilesStand-put, HoldsFrom-commit}
 use Rattle.log_laws.specs.Sound.{IsSoundStore}
-use Rattle.sink_core.specs.SinkSessions.{SinkJob}
 use Rattle.session_laws.specs.CreateSessions.{CreateJob, IsCreationOf}
 use Rattle.session_laws.specs.Jobs as jobs
-use Rattle.session_laws.specs.Rows.{IsBatchOf}
 use Rattle.stream_model.specs.Events.{Event}
-use Rattle.stream_model.specs.Puts.{HasTable, IsGoodPut, IsCommitMade, IsSubmittedFile, Submitted, WasBegun, a_checkpoint, a_commit, a_file, appends, closes, creates}
+use Rattle.stream_model.specs.Puts.{HasTable, IsBatchOfJob, IsGoodPut, IsCommitMade, IsSubmittedBatch, IsSubmittedFile, WasBegun, a_checkpoint, a_commit, a_file, appends, closes, creates}
 use Rattle.stream_model.proofs.Growing.{lawful_held, table_grows}
 
 -- ---- objects
@@ -76,13 +75,9 @@ put_bytes objects name bytes are of_bytes =
 
 -- ---- which batches a commit adds
 
--- a batch was handed in, for a table of this schema
-abbrev pub IsSubmitted : List Event → Schema → Batch → Type 0
-IsSubmitted events schema b = (job : SinkJob) × Submitted events job × IsBatchOf schema job b
-
 -- so were all batches of the table that a store holds
 abbrev pub AreSubmitted : List Event → Objects → Type 0
-AreSubmitted events objects = (schema : Schema) (entries : List Entry) → Holds objects schema entries → (b : Batch) → Contains (batches entries) b → IsSubmitted events schema b
+AreSubmitted events objects = (schema : Schema) (entries : List Entry) → Holds objects schema entries → (b : Batch) → Contains (batches entries) b → IsSubmittedBatch events schema b
 
 -- bytes are the commit of a creation that was handed in
 abbrev pub CreatesAsAsked : List Event → (bytes : List ℕ) → Type 0
@@ -100,12 +95,6 @@ none_long (entry ∷ entries) long = absurd cc
 -- an empty list has nothing
 pub none_in : {A : Type 0} (x : A) → Contains [] x → ⊥
 none_in x has = omega (arith, has.1)
-
-one_batch : (b c : Batch) → Contains (c ∷ []) b → c ≡ b
-one_batch b c has = elim (Contains-push_cases [] c b has) [
-  | inl none ↦ absurd (none_in b none)
-  | inr same ↦ same
-]
 
 -- a close is no group of batches
 group_no_close : (application : List ℕ) (bs : List Batch) (beside : List actions.Action) → IsGroupOf bs beside → IsClose application beside → ⊥
@@ -144,23 +133,24 @@ module _ (events : List Event) (objects : Objects) (sound : IsSound objects) (ve
           let lists = one_list bytes bytes new.schema schema (group bs) (close application) refl is commit in
           group_no_close application bs (without_commit_info commit.actions) (subst (λ (made : List actions.Action). IsGroupOf bs (without_commit_info made)) lists is.stand) commit.stand
 
-  batch_only : (schema : Schema) (c : Batch) → HasTable objects schema → IsCommitOf schema (group (c ∷ [])) bytes → FileStands objects schema c → (entries : List Entry) → new.entries ≡ entries → (b : Batch) → Contains (batches_of new.entry) b → (schema ≡ new.schema) × (c ≡ b)
-  batch_only schema c table commit file [] is b has = absurd (first_none is b has)
-  batch_only schema c table commit file (first ∷ rest) is b has =
+  group_only : (schema : Schema) (bs : List Batch) → HasTable objects schema → IsCommitOf schema (group bs) bytes → AllByRecursion (FileStands objects schema) bs → (entries : List Entry) → new.entries ≡ entries → (b : Batch) → Contains (batches_of new.entry) b → (schema ≡ new.schema) × Contains bs b
+  group_only schema bs table commit files [] is b has = absurd (first_none is b has)
+  group_only schema bs table commit files (first ∷ rest) is b has =
       let same : schema ≡ new.schema = same_table schema table first rest is in
-      let own : IsCommitOf new.schema (group (c ∷ [])) bytes = subst (λ (s : Schema). IsCommitOf s (group (c ∷ [])) bytes) same commit in
-      let own_file : FileStands objects new.schema c = subst (λ (s : Schema). FileStands objects s c) same file in
-      let lists = one_list bytes bytes new.schema new.schema new.entry (group (c ∷ [])) refl new.commit own in
-      let entry : new.entry ≡ group (c ∷ []) = one_entry objects new.schema new.entry (group (c ∷ [])) (without_commit_info own.actions) (subst (λ (made : List actions.Action). StandFor new.schema new.entry (without_commit_info made)) lists new.commit.stand) own.stand new.files.given (own_file, tt) in
-      (same, one_batch b c (subst (λ (e : Entry). Contains (batches_of e) b) entry has))
+      let own : IsCommitOf new.schema (group bs) bytes = subst (λ (s : Schema). IsCommitOf s (group bs) bytes) same commit in
+      let own_files : FilesStand objects new.schema (group bs) = files_stand objects new.schema (group bs) (subst (λ (s : Schema). AllByRecursion (FileStands objects s) bs) same files) in
+      let lists = one_list bytes bytes new.schema new.schema new.entry (group bs) refl new.commit own in
+      let entry : new.entry ≡ group bs = one_entry objects new.schema new.entry (group bs) (without_commit_info own.actions) (subst (λ (made : List actions.Action). StandFor new.schema new.entry (without_commit_info made)) lists new.commit.stand) own.stand new.files.given own_files.given in
+      (same, subst (λ (e : Entry). Contains (batches_of e) b) entry has)
 
   -- the batches of the entry that an admissible commit of a job adds were handed in
-  pub added_submitted : IsCommitMade events objects version bytes → (b : Batch) → Contains (batches_of new.entry) b → IsSubmitted events new.schema b
+  pub added_submitted : IsCommitMade events objects version bytes → (b : Batch) → Contains (batches_of new.entry) b → IsSubmittedBatch events new.schema b
   added_submitted (creates job begun is made) b has = absurd (first_none (none_long new.entries (new.at ∙ is)) b has)
-  added_submitted (closes schema job submitted task commit) b has = absurd (close_none schema job.application commit b has)
-  added_submitted (appends schema job c table submitted of_job commit file) b has =
-      let both = batch_only schema c table commit file new.entries refl b has in
-      (job, submitted, subst (λ (s : Schema). IsBatchOf s job b) both.0 (subst (IsBatchOf schema job) both.1 of_job))
+  added_submitted (closes schema item submitted task commit) b has = absurd (close_none schema item.application commit b has)
+  added_submitted (appends schema job bs table begun of_job commit files) b has =
+      let both = group_only schema bs table commit files new.entries refl b has in
+      let one = each_has (IsBatchOfJob schema job) bs b of_job both.1 in
+      subst (λ (s : Schema). IsSubmittedBatch events s b) both.0 (one.0, (job, begun, one.1), one.2)
 
   -- So are all batches then.
   pub commit_submitted : AreSubmitted events objects → IsSound (with_object objects (commit_name version) bytes) → IsCommitMade events objects version bytes → AreSubmitted events (with_object objects (commit_name version) bytes)
@@ -178,7 +168,7 @@ module _ (events : List Event) (objects : Objects) (sound : IsSound objects) (ve
           let schema_is : new.schema ≡ schema = schema_held (with_object objects (commit_name version) bytes) new.schema schema new.entries new.entry entries new.lawful.begins behind held in
           let parts : batches (new.entries ++ new.entry ∷ []) ≡ batches new.entries ++ batches (new.entry ∷ []) = batches-append new.entries (new.entry ∷ []) in
           let has_so : Contains (batches new.entries ++ batches (new.entry ∷ [])) b = subst (λ (bs : List Batch). Contains bs b) (ap batches same ∙ parts) has in
-          subst (λ (s : Schema). IsSubmitted events s b) schema_is (elim (Contains-append_cases (batches new.entries) (batches (new.entry ∷ [])) b has_so) [
+          subst (λ (s : Schema). IsSubmittedBatch events s b) schema_is (elim (Contains-append_cases (batches new.entries) (batches (new.entry ∷ [])) b has_so) [
             | inl old ↦ all new.schema new.entries before b old
             | inr added ↦ added_submitted made b (elim (Contains-append_cases (batches_of new.entry) [] b added) [
               | inl own ↦ own
@@ -206,12 +196,12 @@ module _ (events : List Event) (objects : Objects) (sound : IsSound objects) (ve
     where
       by_made : IsCommitMade events objects version bytes → 0 ≡ version → object_at (with_object objects (commit_name version) bytes) (commit_name 0) ≡ Some bytes → CreatesAsAsked events bytes
       by_made (creates job begun zero made) at is = (job, begun, made)
-      by_made (appends schema job c (first, rest, holds) submitted of_job commit file) at is =
+      by_made (appends schema job bs (first, rest, holds) begun of_job commit files) at is =
           let stands = object_at-with_object_kept objects (commit_name version) bytes (commit_name 0) holds.0.0 holds.0.1 in
           let both = sym stands ∙ is in
           let same : holds.0.0 ≡ bytes = cc in
           subst (CreatesAsAsked events) same (all holds.0.0 holds.0.1)
-      by_made (closes schema job submitted task commit) at is = absurd (no_first_close schema job.application commit (none_long new.entries (new.at ∙ sym at)))
+      by_made (closes schema item submitted task commit) at is = absurd (no_first_close schema item.application commit (none_long new.entries (new.at ∙ sym at)))
 
 -- ---- data files
 
@@ -269,7 +259,7 @@ module _ (objects : Objects) (name bytes : List ℕ) (apart : (version : ℕ) �
   beside_submitted : (events : List Event) → IsSound objects → AreSubmitted events objects → AreSubmitted events (with_object objects name bytes)
   beside_submitted events sound all = λ schema entries held b has. by_entries sound.entries sound.holds sound.lawful.begins schema entries held b has
     where
-      by_entries : (own : List Entry) → Holds objects sound.schema own → Begins own → (schema : Schema) (entries : List Entry) → Holds (with_object objects name bytes) schema entries → (b : Batch) → Contains (batches entries) b → IsSubmitted events schema b
+      by_entries : (own : List Entry) → Holds objects sound.schema own → Begins own → (schema : Schema) (entries : List Entry) → Holds (with_object objects name bytes) schema entries → (b : Batch) → Contains (batches entries) b → IsSubmittedBatch events schema b
       by_entries [] holds begins schema entries held b has =
           let same : [] ≡ entries = only_table (with_object objects name bytes) sound.schema schema [] entries begins (held_beside sound.schema 0 [] holds) held in
           absurd (none_in b (subst (λ (es : List Entry). Contains (batches es) b) (sym same) has))
@@ -277,7 +267,7 @@ module _ (objects : Objects) (name bytes : List ℕ) (apart : (version : ℕ) �
           let here = held_beside sound.schema 0 (first ∷ rest) holds in
           let same : first ∷ rest ≡ entries = only_table (with_object objects name bytes) sound.schema schema (first ∷ rest) entries begins here held in
           let schema_is : sound.schema ≡ schema = one_schema (with_object objects name bytes) sound.schema schema first rest entries begins here held in
-          subst (λ (s : Schema). IsSubmitted events s b) schema_is (all sound.schema (first ∷ rest) holds b (subst (λ (es : List Entry). Contains (batches es) b) (sym same) has))
+          subst (λ (s : Schema). IsSubmittedBatch events s b) schema_is (all sound.schema (first ∷ rest) holds b (subst (λ (es : List Entry). Contains (batches es) b) (sym same) has))
 
 -- ---- whatever is put
 

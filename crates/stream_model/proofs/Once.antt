@@ -4,7 +4,7 @@ use Rattle.std.specs.Prelude.{bytes_eq, slice_get}
 use Rattle.std.proofs.lemmas.List.{map-append}
 use Rattle.std.proofs.lemmas.Slice.Eq.{bytes_eq-Decides}
 use Rattle.table_model.specs.Lawful.{Rises}
-use Rattle.table_model.specs.Table.{Batch, Told, Entry, batches, numbers_by, told_of}
+use Rattle.table_model.specs.Table.{Batch, ToldNumber, Entry, batches, numbers_by, told_of}
 use Rattle.table_model.proofs.Callers.{Rises-back, below_later, numbers_in, numbers_in-append, told-batches}
 use Rattle.stream_model.specs.Headline.{StandOnce}
 
@@ -29,7 +29,7 @@ module _ (application : List ℕ) where
   numbers_of bs = numbers_in application (map told_of bs)
 
   numbers_of-append : (bs cs : List Batch) → numbers_of (bs ++ cs) ≡ numbers_of bs ++ numbers_of cs
-  numbers_of-append bs cs = ap (λ (ts : List Told). numbers_in application ts) (map-append told_of bs cs) ∙ numbers_in-append application (map told_of bs) (map told_of cs)
+  numbers_of-append bs cs = ap (λ (ts : List ToldNumber). numbers_in application ts) (map-append told_of bs cs) ∙ numbers_in-append application (map told_of bs) (map told_of cs)
 
   -- the number of one of the application's comes first
   own_number : (b : Batch) (bs : List Batch) → b.application ≡ application → numbers_of (b ∷ bs) ≡ b.number ∷ numbers_of bs
@@ -68,7 +68,7 @@ stands_once entries rises = λ place other b c is also applications numbers. by_
     ]
 
     rise : (application : List ℕ) → Rises (numbers_of application (batches entries))
-    rise application = subst Rises (ap (λ (ts : List Told). numbers_in application ts) (told-batches entries)) (rises application)
+    rise application = subst Rises (ap (λ (ts : List ToldNumber). numbers_in application ts) (told-batches entries)) (rises application)
 
     by_order : (place other : ℕ) (b c : Batch) → slice_get (batches entries) place ≡ Some b → slice_get (batches entries) other ≡ Some c → b.application ≡ c.application → b.number ≡ c.number → (place < other) ⊎ ((place ≡ other) ⊎ (other < place)) → place ≡ other
     by_order place other b c is also applications numbers (inl below) = absurd (let less = lower c.application (batches entries) place other b c (rise c.application) is also applications refl below in omega (arith, less, numbers))

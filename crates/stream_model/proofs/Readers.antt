@@ -175,5 +175,5 @@ module _ (laws : AreLaws) where
     pub hands_out : HandsOutTheLog outs entries
     hands_out = record {
       from_beginning = λ those resume. laws.part_front (most_rows those) (last_offset beginning those) entries (all_rows_handed those) (resumed_part beginning those (beginning_is_offset entries) resume);
-      from_offset = λ offset those within resume. resumed_part offset those within resume;
+      from_offset = λ offset those within resume. resumed_part offset those within.0 resume;
     }

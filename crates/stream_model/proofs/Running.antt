@@ -1,25 +1,27 @@
 -- Whatever happens, it is so of each world; and what follows of it for a table that a store holds.
 use Rattle.std.proofs.Common.{refl, Contains, List, Option, Some, None, [], append-nil, append_assoc, subst, suc, sym, zero, ℕ, ◌++◌, ◌∷◌, ◌≡◌}
 use Rattle.std.specs.List.{flat_map}
-use Rattle.std.specs.Prelude.{Ok, slice_get}
+use Rattle.std.specs.Prelude.{Ok, Result, slice_get}
 use Rattle.std.proofs.lemmas.List.Elements.{Contains-append_left, Contains-append_right, Contains-push}
 use Rattle.schema_tree.specs.Reading.{schema_of}
 use Rattle.store_core.specs.Objects.{HasObjectsOf, Objects}
 use Rattle.session_core.specs.Talks.{Asked, get_object, list_names, put_commit, put_file}
 use Rattle.store_core.specs.Names.{commit_name}
-use Rattle.table_model.specs.Table.{Batch, Told, Entry, batches, tells, told_of}
+use Rattle.table_model.specs.Table.{Batch, ToldNumber, Entry, batches, tells, told_of}
 use Rattle.table_model.proofs.Callers.{batch_of_told}
 use Rattle.table_store.specs.Holds.{Holds}
 use Rattle.table_store.specs.Schema.{Schema}
 use Rattle.table_store.proofs.HoldingSchema.{one_creation_of}
 use Rattle.sink_core.specs.SinkSessions.{SinkJob}
-use Rattle.sink_core.specs.declared.sink_state.SinkEnd.{SinkEnd}
+use Rattle.batch_core.specs.declared.fault.SinkFault.{SinkFault}
+use Rattle.sink_core.specs.declared.sink_state.SinkOutcome.{SinkOutcome}
 use Rattle.session_laws.specs.Rows.{IsBatchOf}
 use Rattle.session_laws.specs.Jobs.{Job, Outcome, CanBegin}
 use Rattle.session_laws.proofs.Callers.{creation_commit}
 use Rattle.stream_model.specs.Events.{Event, Happens, IsWorldOf, Ran, acts, at_first, begin, begins, die, dies, ends, goes_on, lands, nothing_happens, then_one, with_told}
 use Rattle.stream_model.specs.Headline.{Acknowledges, IsHeadline, IsSoOf, already, committed}
-use Rattle.stream_model.specs.Worlds.{How, IsFirstStore, World, first_world, fresh, late, left_by_call, left_how, lost, once, short, twice}
+use Rattle.session_core.specs.CallEffects.{left_by_call}
+use Rattle.stream_model.specs.Worlds.{How, IsFirstStore, World, first_world, fresh, late, left_how, lost, once, short, twice}
 use Rattle.stream_model.proofs.Calls.{got_one}
 use Rattle.stream_model.proofs.Good.{IsGoodWorld, world_more}
 use Rattle.stream_model.proofs.Growing.{lawful_held}
@@ -52,8 +54,8 @@ empty_good laws = record {
   };
   flight = λ put has. absurd (none_in put has);
   actors = λ name actor is. absurd cc;
-  told = λ job end has. absurd (none_in _ has);
-  handed = λ job end has. absurd (none_in _ has);
+  told = λ job end has. absurd (none_in _ has.2);
+  handed = λ job end has. absurd (none_in _ has.2);
   parts = λ job end has. absurd (none_in _ has);
 }
 
@@ -138,7 +140,7 @@ ran_on first events outs w of more told later (then_one before earlier old event
 -- ---- the headline
 
 -- what an entry tells is told in the table
-told_at : (entries : List Entry) (version : ℕ) (entry : Entry) (t : Told) → slice_get entries version ≡ Some entry → Contains (tells entry) t → Contains (flat_map tells entries) t
+told_at : (entries : List Entry) (version : ℕ) (entry : Entry) (t : ToldNumber) → slice_get entries version ≡ Some entry → Contains (tells entry) t → Contains (flat_map tells entries) t
 told_at [] version entry t is has = absurd cc
 told_at (first ∷ entries) zero entry t is has =
     let same : first ≡ entry = cc in
@@ -146,9 +148,9 @@ told_at (first ∷ entries) zero entry t is has =
 told_at (first ∷ entries) (suc version) entry t is has = Contains-append_right (tells first) (flat_map tells entries) t (told_at entries version entry t is has)
 
 -- a batch that was acknowledged stands
-acknowledged_stands : (schema : Schema) (entries : List Entry) (job : SinkJob) (end : SinkEnd) → IsSoOf schema entries job end.answer → Acknowledges end → (b : Batch) × IsBatchOf schema job b × Contains (batches entries) b
-acknowledged_stands schema entries job end so (committed version is) = let told = subst (IsSoOf schema entries job) is so in (told.0, told.1, batch_of_told entries told.0 (told_at entries version told.2.0 (told_of told.0) told.2.1 told.2.2))
-acknowledged_stands schema entries job end so (already number is) = let told = subst (IsSoOf schema entries job) is so in (told.0, told.1, batch_of_told entries told.0 told.2.1)
+acknowledged_stands : (schema : Schema) (entries : List Entry) (item : SinkJob) (answer : Result SinkOutcome SinkFault) → IsSoOf schema entries item answer → Acknowledges answer → (b : Batch) × IsBatchOf schema item b × Contains (batches entries) b
+acknowledged_stands schema entries item _ so (committed version) = (so.0, so.1, batch_of_told entries so.0 (told_at entries version so.2.0 (told_of so.0) so.2.1 so.2.2))
+acknowledged_stands schema entries item _ so (already number) = (so.0, so.1, batch_of_told entries so.0 so.2.1)
 
 -- the table was created as a job asked that was handed in
 was_created : (events : List Event) (objects : Objects) → IsBegunAsAsked events objects → (schema : Schema) (entries : List Entry) → Holds objects schema entries → WasCreated events schema entries
@@ -164,9 +166,9 @@ headline_of laws events outs w good schema entries holds = record {
   created = was_created events w.objects good.store.created schema entries holds;
   once = stands_once entries (lawful_held w.objects schema entries good.store.sound.table holds).rises;
   lawful = lawful_held w.objects schema entries good.store.sound.table holds;
-  acknowledged = λ job end has acknowledges. let one = acknowledged_stands schema entries job end (good.told job end has schema entries holds) acknowledges in (good.handed job end has, one.0, one.1, one.2);
+  acknowledged = λ item answer was acknowledges. let one = acknowledged_stands schema entries item answer (good.told item answer was schema entries holds) acknowledges in (good.handed item answer was, one.0, one.1, one.2);
   submitted = λ b has. good.store.submitted schema entries holds b has;
-  told = λ job end has. good.told job end has schema entries holds;
+  told = λ item answer was. good.told item answer was schema entries holds;
   parts = λ job end has. good.parts job end has schema entries holds;
   handed = hands_out laws outs schema entries (λ job end has. good.parts job end has schema entries holds);
 }

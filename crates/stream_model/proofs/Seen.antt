@@ -21,7 +21,7 @@ use Rattle.session_laws.proofs.Callers.{kept_files, sound_kept, batch_file, no_v
 use Rattle.session_laws.specs.Rows.{IsReadable, ListsFirst}
 use Rattle.session_laws.specs.Jobs.{Asks, Job, creates, reads}
 use Rattle.stream_model.specs.Events.{Event}
-use Rattle.stream_model.specs.Worlds.{left_by_call, told_by_call}
+use Rattle.session_core.specs.CallEffects.{left_by_call, told_by_call}
 use Rattle.stream_model.proofs.Growing.{begun_more, file_more, lawful_held, submitted_more}
 use Rattle.stream_model.proofs.Landing.{IsGoodStore, put_grew}
 

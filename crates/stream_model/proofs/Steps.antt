@@ -1,5 +1,5 @@
 -- What is so of a world stays so by each event.
-use Rattle.std.proofs.Common.{◌∷◌, ◌≡◌, ◌⊎◌, ℕ, ◌==◌, List, [], ◌++◌, Option, Some, None, Contains, inl, inr, refl, ap, subst}
+use Rattle.std.proofs.Common.{◌∷◌, ◌≡◌, ◌⊎◌, ℕ, ◌==◌, List, [], ◌++◌, Option, Some, None, Contains, inl, inr, refl, sym, ap, subst, arith}
 use Rattle.std.specs.Prelude.{Result, Ok, Err}
 use Rattle.std.proofs.lemmas.Bool.{cases_Bool}
 use Rattle.std.proofs.lemmas.List.Elements.{Contains-append_cases, Contains-push_cases}
@@ -22,13 +22,14 @@ use Rattle.sink_core.specs.declared.sink_state.SinkOutcome.{SinkOutcome}
 use Rattle.sink_core.specs.declared.sink_state.SinkOutcome.TheVariants.{Already, AlreadyClosed, Closed, Committed}
 use Rattle.session_laws.specs.May.{BearsSession, MayAsk, MayTell}
 use Rattle.session_laws.specs.Rows.{MayTellOfStream}
-use Rattle.session_laws.specs.Jobs.{Asks, IsValidJob, Job, Outcome, checkpoints, creates, loads, read, reads, stream, streams}
+use Rattle.session_laws.specs.Jobs.{Asks, IsValidJob, Job, Outcome, item_answers, checkpoints, creates, loads, read, reads, stream, streams}
 use Rattle.session_laws.specs.Moves.{Does, HasAsked, asks, tells}
 use Rattle.stream_model.specs.Events.{Event, HasActor, IsOfBytes, ComesToTalk, begins_now, loses, takes, with_told}
 use Rattle.stream_model.specs.Headline.{IsPartOfTable, IsSoOf}
 use Rattle.stream_model.specs.Puts.{IsGoodPut, WasBegun}
-use Rattle.stream_model.specs.Worlds.{Actor, Hand, How, IsBegunAs, World, acted, asking, ended, late, left_by_call, lost, once, sent, short, told_by_call, twice, waiting, with_actor}
-use Rattle.stream_model.proofs.Begun.{part_begun, told_begun, valid_begun}
+use Rattle.session_core.specs.CallEffects.{left_by_call, told_by_call}
+use Rattle.stream_model.specs.Worlds.{Actor, Hand, How, IsBegunAs, World, acted, asking, ended, late, lost, once, sent, short, twice, waiting, with_actor}
+use Rattle.stream_model.proofs.Begun.{IsToldAlone, answered_alone, part_begun, told_begun, valid_begun}
 use Rattle.stream_model.proofs.Calls.{IsGoodCall, call_good, heard_so, lost_borne, memory_borne, told_borne}
 use Rattle.stream_model.proofs.Good.{IsGoodActor, IsGoodHand, IsGoodWorld, actor_lasts, parts_last, puts_last, told_lasts}
 use Rattle.stream_model.proofs.Landing.{IsGoodStore, none_in, put_grew, put_lands}
@@ -299,13 +300,17 @@ module _ (laws : AreLaws) where
           store = behind.store;
           flight = behind.flight;
           actors = behind.actors;
-          told = λ job end has schema entries holds. elim (Contains-push_cases outs (actor.job, outcome) (streams job, stream end) has) [
-            | inl was ↦ good.told job end was schema entries holds
-            | inr same ↦ outcome_so schema entries outcome (may_tell schema entries holds) job end (begun_as (streams job) (ap (λ (one : Job × Outcome). one.0) same)) (ap (λ (one : Job × Outcome). one.1) same)
+          told = λ item answer was schema entries holds. elim (Contains-push_cases outs (actor.job, outcome) (was.0, was.1) was.2) [
+            | inl before ↦ good.told item answer (was.0, was.1, before, was.3) schema entries holds
+            | inr same ↦
+                let alone = told_alone item answer was.0 was.1 same was.3 in
+                subst (IsSoOf schema entries item) alone.3 (outcome_so schema entries outcome (may_tell schema entries holds) item alone.0 (begun_as (streams item) alone.1) alone.2)
           ];
-          handed = λ job end has. elim (Contains-push_cases outs (actor.job, outcome) (streams job, stream end) has) [
-            | inl was ↦ good.handed job end was
-            | inr same ↦ subst (WasBegun events) (ap (λ (one : Job × Outcome). one.0) same) acting.begun
+          handed = λ item answer was. elim (Contains-push_cases outs (actor.job, outcome) (was.0, was.1) was.2) [
+            | inl before ↦ good.handed item answer (was.0, was.1, before, was.3)
+            | inr same ↦
+                let alone = told_alone item answer was.0 was.1 same was.3 in
+                (streams item, subst (WasBegun events) alone.1 acting.begun, (0, omega arith, refl))
           ];
           parts = λ job end has schema entries holds. elim (Contains-push_cases outs (actor.job, outcome) (reads job, read end) has) [
             | inl was ↦ good.parts job end was schema entries holds
@@ -315,6 +320,10 @@ module _ (laws : AreLaws) where
       where
         may_tell : (schema : Schema) (entries : List Entry) → Holds w.objects schema entries → MayTell w.objects schema entries actor.begun actor.before now outcome
         may_tell schema entries holds = laws.may w.objects schema entries actor.begun actor.before now (tells outcome) (amid schema entries holds) valid does
+
+        -- of an item that was answered now this session was the stream's
+        told_alone : (item : SinkJob) (answer : Result SinkOutcome SinkFault) (job : Job) (told : Outcome) → ◌≡◌ {A = Job × Outcome} (actor.job, outcome) (job, told) → Contains (item_answers job told) (item, answer) → IsToldAlone actor.job outcome item answer
+        told_alone item answer job told same among = answered_alone actor.job outcome item answer (subst (λ (one : Job × Outcome). Contains (item_answers one.0 one.1) (item, answer)) (sym same) among)
 
         begun_as : (job : Job) → actor.job ≡ job → IsBegunAs job actor.begun
         begun_as job same = subst (λ (j : Job). IsBegunAs j actor.begun) same acting.same

@@ -4,7 +4,8 @@ use Rattle.store_core.specs.Objects.{Objects, object_at}
 use Rattle.session_core.specs.Talks.{Asked, Bears, Talk, Told, told_lost, told_memory}
 use Rattle.session_laws.specs.Jobs.{Job}
 use Rattle.stream_model.specs.Events.{Event, HasActor, ComesToTalk, act, answer, begin, die, land, lose_answer}
-use Rattle.stream_model.specs.Worlds.{Actor, Hand, How, IsBegunAs, World, acted, asking, ended, fresh, late, left_by_call, lost, once, short, told_by_call, twice, waiting}
+use Rattle.session_core.specs.CallEffects.{left_by_call, told_by_call}
+use Rattle.stream_model.specs.Worlds.{Actor, Hand, How, IsBegunAs, World, acted, asking, ended, fresh, late, lost, once, short, twice, waiting}
 
 -- a session that has made a step asks for a call, or has ended
 abbrev pub HasStepped : Hand → Type 0

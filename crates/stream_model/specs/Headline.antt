@@ -11,7 +11,7 @@ use Rattle.snapshot_core.specs.declared.checkpoint_session.CheckpointEnd.{Checkp
 use Rattle.snapshot_core.specs.declared.fault.SnapshotFault.TheVariants as checkpoint_faults
 use Rattle.table_model.specs.Appends.{TellsClose}
 use Rattle.table_model.specs.Lawful.{IsLawful}
-use Rattle.table_model.specs.Reads.{IsPart, is_offset, position}
+use Rattle.table_model.specs.Reads.{IsPart, IsPlace, position}
 use Rattle.table_model.specs.Resumed.{beginning}
 use Rattle.table_model.specs.Table.{Batch, Entry, batches, rows}
 use Rattle.table_model.specs.declared.table.AppendAnswer.TheVariants as appended
@@ -32,10 +32,10 @@ use Rattle.source_core.specs.declared.source_session.ReadEnd.{ReadEnd}
 use Rattle.log_rows.specs.declared.tail_fault.TailFault.TheVariants as read_faults
 use Rattle.session_laws.specs.Readers.{next_told, rows_told}
 use Rattle.session_laws.specs.Rows.{IsBatchOf, ListsFirst, TellsOfBatch, TellsOfListed}
-use Rattle.session_laws.specs.Jobs.{Job, Outcome, checkpoint, load, read, reads, stream, streams}
+use Rattle.session_laws.specs.Jobs.{Job, Outcome, item_answers, checkpoint, load, read, reads, stream}
 use Rattle.session_laws.specs.Moves.{ends_lost}
 use Rattle.stream_model.specs.Events.{Event}
-use Rattle.stream_model.specs.Puts.{Submitted, WasCreated}
+use Rattle.stream_model.specs.Puts.{IsSubmittedBatch, Submitted, WasCreated}
 
 -- ---- refusals that don't come
 
@@ -67,16 +67,20 @@ pub data TellsUnsupported : Outcome → Type 0 where
 
 -- ---- what is so of the table
 
--- What a stream was told of its batch or its close is so of the table: that it was put as a version, stands already, is below a number that
--- stands, or was closed before; of a close only where it was one. Of other refusals nothing is said here.
+-- of this append or close, an item of some job, this was told
+abbrev pub WasAnswered : List (Job × Outcome) → SinkJob → Result SinkOutcome SinkFault → Type 0
+WasAnswered outs item answer = (job : Job) × (outcome : Outcome) × Contains outs (job, outcome) × Contains (item_answers job outcome) (item, answer)
+
+-- What was told of a batch or a close is so of the table: that it was put as a version, stands already, is below a number that
+-- stands, or comes behind the close of its stream; of a close only where it was one. Of other refusals nothing is said here.
 abbrev pub IsSoOf : Schema → List Entry → SinkJob → Result SinkOutcome SinkFault → Type 0
-IsSoOf schema entries job (Ok (Committed version)) = TellsOfBatch schema entries job (appended.Committed version)
-IsSoOf schema entries job (Ok (Already number)) = TellsOfBatch schema entries job (appended.Already number)
-IsSoOf schema entries job (Ok (Closed version)) = (job.task ≡ closes) × TellsClose (closed.Closed version) job.application entries
-IsSoOf schema entries job (Ok AlreadyClosed) = (job.task ≡ closes) × TellsClose closed.AlreadyClosed job.application entries
-IsSoOf schema entries job (Err (faults.Stale last)) = TellsOfBatch schema entries job (appended.Stale last)
-IsSoOf schema entries job (Err faults.StreamClosed) = TellsOfBatch schema entries job appended.StreamClosed
-IsSoOf schema entries job (Err fault) = Unit {0}
+IsSoOf schema entries item (Ok (Committed version)) = TellsOfBatch schema entries item (appended.Committed version)
+IsSoOf schema entries item (Ok (Already number)) = TellsOfBatch schema entries item (appended.Already number)
+IsSoOf schema entries item (Ok (Closed version)) = (item.task ≡ closes) × TellsClose (closed.Closed version) item.application entries
+IsSoOf schema entries item (Ok AlreadyClosed) = (item.task ≡ closes) × TellsClose closed.AlreadyClosed item.application entries
+IsSoOf schema entries item (Err (faults.Stale last)) = TellsOfBatch schema entries item (appended.Stale last)
+IsSoOf schema entries item (Err faults.StreamClosed) = TellsOfBatch schema entries item appended.StreamClosed
+IsSoOf schema entries item (Err fault) = Unit {0}
 
 -- What a read handed out is a part of the table, which has a version, from its offset up to where the next read begins, and the table's schema
 -- with it. A refused one hands out nothing.
@@ -85,10 +89,10 @@ IsPartOfTable schema [] job (Ok handed) = ⊥
 IsPartOfTable schema (first ∷ rest) job (Ok handed) = (tree_of handed.schema.schema ≡ schema) × IsPart job.max job.place (row_views handed.rows.items) (offset_view handed.next) (first ∷ rest)
 IsPartOfTable schema entries job (Err fault) = Unit {0}
 
--- the outcome tells that the job's batch stands: it was committed, or stood already
-pub data Acknowledges (end : SinkEnd) : Type 0 where
-  committed : (version : ℕ) → end.answer ≡ Ok (Committed version) → Acknowledges end
-  already : (number : ℕ) → end.answer ≡ Ok (Already number) → Acknowledges end
+-- the answer tells that the batch stands: it was committed, or stood already
+pub data Acknowledges : Result SinkOutcome SinkFault → Type 0 where
+  committed : (version : ℕ) → Acknowledges (Ok (Committed version))
+  already : (number : ℕ) → Acknowledges (Ok (Already number))
 
 -- no two places of a list have batches of one application and number
 abbrev pub StandOnce : List Batch → Type 0
@@ -120,18 +124,18 @@ most_rows those = sum_by (λ (one : SourceJob × ReadEnd). one.0.max) those
 -- at another of the table's offsets, the rows from there up to its last. Each once, in the order of the log.
 pub record HandsOutTheLog (outs : List (Job × Outcome)) (entries : List Entry) : Type 0 where
   pub from_beginning : (those : List (SourceJob × ReadEnd)) → Resume outs beginning those → all_rows_handed those ≡ take (position (last_offset beginning those) entries) (rows entries)
-  pub from_offset : (offset : Offset) (those : List (SourceJob × ReadEnd)) → is_offset offset entries ≡ true → Resume outs offset those → IsPart (most_rows those) offset (all_rows_handed those) (last_offset offset those) entries
+  pub from_offset : (offset : Offset) (those : List (SourceJob × ReadEnd)) → IsPlace offset entries → Resume outs offset those → IsPart (most_rows those) offset (all_rows_handed those) (last_offset offset those) entries
 
 -- Of the table that a store holds: it was created as a job asked that was handed in; each batch stands once, each application's numbers rise,
 -- and none of it stands behind its close; each batch that was acknowledged was handed in, and stands; each batch that stands was
--- handed in, with these rows; what a stream was told of its batch or its close is so, of the outcomes that `IsSoOf` speaks of; each read that
+-- handed in, with these rows; what was told of a batch or a close is so, of the answers that `IsSoOf` speaks of; each read that
 -- wasn't refused handed out a part of the table with its schema, and readers that resume at their last offset its rows up to there.
 pub record IsHeadline (events : List Event) (outs : List (Job × Outcome)) (schema : Schema) (entries : List Entry) : Type 0 where
   pub created : WasCreated events schema entries
   pub once : StandOnce (batches entries)
   pub lawful : IsLawful entries
-  pub acknowledged : (job : SinkJob) (end : SinkEnd) → Contains outs (streams job, stream end) → Acknowledges end → Submitted events job × (b : Batch) × IsBatchOf schema job b × Contains (batches entries) b
-  pub submitted : (b : Batch) → Contains (batches entries) b → (job : SinkJob) × Submitted events job × IsBatchOf schema job b
-  pub told : (job : SinkJob) (end : SinkEnd) → Contains outs (streams job, stream end) → IsSoOf schema entries job end.answer
+  pub acknowledged : (item : SinkJob) (answer : Result SinkOutcome SinkFault) → WasAnswered outs item answer → Acknowledges answer → Submitted events item × (b : Batch) × IsBatchOf schema item b × Contains (batches entries) b
+  pub submitted : (b : Batch) → Contains (batches entries) b → IsSubmittedBatch events schema b
+  pub told : (item : SinkJob) (answer : Result SinkOutcome SinkFault) → WasAnswered outs item answer → IsSoOf schema entries item answer
   pub parts : (job : SourceJob) (end : ReadEnd) → Contains outs (reads job, read end) → IsPartOfTable schema entries job end.answer
   pub handed : HandsOutTheLog outs entries

@@ -1,8 +1,9 @@
 -- Worlds of actors over one store: what stands, the puts that may take effect later, and what each actor's session has at hand.
 use Rattle.std.specs.Prelude.{◌≡◌, ℕ, ◌==◌, List, [], ◌∷◌, ◌++◌, Option, Some, None, Ok, Err, if◌then◌else◌}
-use Rattle.store_core.specs.Calls.{Flight, put_told}
-use Rattle.store_core.specs.Objects.{Objects, names_of, object_at, with_object}
-use Rattle.session_core.specs.Talks.{Asked, Bears, IsBorne, Talk, Told, get_object, list_names, put_commit, put_file, told_lost, told_memory, told_names, told_object, told_put}
+use Rattle.store_core.specs.Calls.{Flight}
+use Rattle.store_core.specs.Objects.{Objects}
+use Rattle.session_core.specs.CallEffects.{left_by_call, told_by_call}
+use Rattle.session_core.specs.Talks.{Asked, Bears, IsBorne, Talk, Told, put_commit, put_file, told_lost, told_memory}
 use Rattle.store_core.specs.Names.{commit_name}
 use Rattle.table_log.specs.Loads.{IsFront}
 use Rattle.table_log.specs.LoadSessions.{LoadJob}
@@ -78,20 +79,7 @@ anew job = record { job = job; begun = job; before = []; talk = []; hand = fresh
 abbrev pub with_actor : World → ℕ → Option Actor → World
 with_actor w name found = record w { actors = λ other. if other == name then found else w.actors other }
 
--- ---- calls that take effect
-
--- what a call that takes effect tells
-abbrev pub told_by_call : Objects → Asked → Told
-told_by_call objects list_names = told_names (names_of objects)
-told_by_call objects (get_object name) = told_object (object_at objects name)
-told_by_call objects (put_file name bytes) = told_put (put_told (object_at objects name))
-told_by_call objects (put_commit version bytes) = told_put (put_told (object_at objects (commit_name version)))
-
--- and what it leaves: a put makes an absent name stand
-abbrev pub left_by_call : Objects → Asked → Objects
-left_by_call objects (put_file name bytes) = with_object objects name bytes
-left_by_call objects (put_commit version bytes) = with_object objects (commit_name version) bytes
-left_by_call objects asked = objects
+-- ---- how calls are answered
 
 -- the put that goes in flight; a list and a get don't
 abbrev pub sent : Asked → Flight

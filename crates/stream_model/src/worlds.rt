@@ -32,8 +32,8 @@ use table_model::{a_part_from_the_beginning_is_a_front, parts_that_follow_are_on
 ///   stood then, which bore what was known before, whose files can be read and which has grown since (all of this is
 ///   `borne`); so what a job does next by its talk it may do, as `what_a_session_may` has it;
 /// - each put in flight may take effect at any time: it is a file of a batch that was handed in, an admissible commit
-///   of a creation or a close that a job asks for or of such a batch, or a checkpoint of the log's commits up to its
-///   version (`flight`);
+///   of a creation or a close that a job asks for or of batches of one job, or a checkpoint of the log's commits up to
+///   its version (`flight`);
 /// - each data file has the rows of a batch of its name that was handed in, for the table that stands (`files`);
 /// - of the table that the store holds (by `sound` there is one, without versions until a creation takes effect): where
 ///   it has a version, its schema is what the text of a creation that was handed in is read as; each batch stands once,

@@ -7,7 +7,8 @@ use Rattle.session_core.specs.declared.asking.Reply.{Reply}
 use Rattle.session_core.specs.declared.asking.Request.{Request}
 use Rattle.table_jobs.specs.Jobs.{Job}
 use Rattle.stream_model.specs.Events.{Event, FitsWorld, HasActor, act, acts}
-use Rattle.stream_model.specs.Worlds.{Actor, Hand, How, World, acted, asking, ended, flight_how, fresh, late, left_by_call, left_how, lost, once, short, told_by_call, told_how, twice, waiting}
+use Rattle.session_core.specs.CallEffects.{left_by_call, told_by_call}
+use Rattle.stream_model.specs.Worlds.{Actor, Hand, How, World, acted, asking, ended, flight_how, fresh, late, left_how, lost, once, short, told_how, twice, waiting}
 use Rattle.stream_world.specs.Calling.{is_told_out}
 use Rattle.stream_world.specs.EventViews.{IsMetIn, ran_out, ran_out_of}
 use Rattle.table_jobs.specs.Sessions.{SessionFits, job_of}

@@ -11,7 +11,8 @@ use Rattle.store_core.specs.declared.store.Put.TheVariants.{Exists}
 use Rattle.session_core.specs.Stores.{Answers, State}
 use Rattle.session_core.specs.Talks.{Asked, Told, get_object, list_names, put_commit, put_file, told_lost, told_memory, told_names, told_object, told_put}
 use Rattle.store_core.specs.Names.{commit_name}
-use Rattle.stream_model.specs.Worlds.{How, left_by_call, once, short, told_by_call, twice}
+use Rattle.session_core.specs.CallEffects.{left_by_call, told_by_call}
+use Rattle.stream_model.specs.Worlds.{How, once, short, twice}
 use Rattle.stream_world.specs.Calling.{IsSentCall, again, sent_told}
 use Rattle.stream_world.specs.EventViews.{IsMetIn}
 use Rattle.stream_world.specs.Standing.{CallMeets}

@@ -19,7 +19,7 @@ use Rattle.table_jobs.specs.declared.job.Job.TheVariants as jobs
 use Rattle.table_jobs.specs.declared.job_session.JobEnd as code_end
 use Rattle.stream_model.specs.Events.{ComesToTalk, Event, FitsWorld, Happens, IsWorldOf, act, acts, answer, begin, begins, begins_now, die, dies, ends, goes_on, land, lands, lose_answer, loses, nothing_happens, takes, with_told}
 use Rattle.stream_model.specs.Headline.{IsHeadline}
-use Rattle.stream_model.specs.Puts.{WasBegun, WasCreated}
+use Rattle.stream_model.specs.Puts.{Submitted, WasBegun, WasCreated}
 use Rattle.stream_model.specs.Worlds.{Actor, IsBegunAs, IsFirstStore, World, asking, ended, first_world, fresh, with_actor}
 use Rattle.stream_world.specs.EventViews.{IsMetAs, event_view}
 use Rattle.stream_world.specs.Paired.{AreOwned, IsOfKind, IsOwned, job_begun, job_going_on, out_of, outs_told}
@@ -374,13 +374,16 @@ headline_of_more met events outs schema entries handed headline = record {
   created = created_by entries headline.created;
   once = headline.once;
   lawful = headline.lawful;
-  acknowledged = λ job end has acknowledges. let one = headline.acknowledged job end has acknowledges in (handed (streams job) one.0, one.1, one.2, one.3);
-  submitted = λ b has. let one = headline.submitted b has in (one.0, handed (streams one.0) one.1, one.2);
+  acknowledged = λ item answer was acknowledges. let one = headline.acknowledged item answer was acknowledges in (item_handed item one.0, one.1, one.2, one.3);
+  submitted = λ b has. let one = headline.submitted b has in (one.0, item_handed one.0 one.1, one.2);
   told = headline.told;
   parts = headline.parts;
   handed = headline.handed;
 }
   where
+    item_handed : (item : _) → Submitted met item → Submitted events item
+    item_handed item (job, begun, has) = (job, handed job begun, has)
+
     created_by : (those : List Entry) → WasCreated met schema those → WasCreated events schema those
     created_by [] created = tt
     created_by (first ∷ rest) (job, begun, reads_as) = (job, handed (creates job) begun, reads_as)

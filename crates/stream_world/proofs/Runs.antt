@@ -3,7 +3,7 @@ use Rattle.std.proofs.Common.{◌≡◌, ◌∙◌, ◌||◌, Bool, true, false,
 use Rattle.std.proofs.lemmas.List.{map-append}
 use Rattle.store_core.specs.Objects.{Objects}
 use Rattle.table_jobs.specs.Jobs.{Job, Outcome}
-use Rattle.stream_model.specs.Events.{Event, IsWorldOf, Ran, act, answer, begin, die, land, lose_answer}
+use Rattle.stream_model.specs.Events.{Event, Ran, act, answer, begin, die, land, lose_answer}
 use Rattle.stream_model.specs.Events as events
 use Rattle.stream_model.specs.Worlds.{How, World, first_world, late, lost, once, short, twice}
 use Rattle.stream_world.specs.EventViews.{IsMetAs, IsMetIn, event_view, ran_out, ran_out_of}

@@ -28,7 +28,7 @@ use Rattle.stream_model.proofs.Callers.{bears_happens, event_grew, told_front}
 use Rattle.table_jobs.specs.Sessions.{SessionFits, end_view, job_of}
 use Rattle.stream_world.specs.EventViews.{ran_out}
 use Rattle.std.specs.declared.alloc.AllocError.{AllocError}
-use Rattle.stream_world.specs.Standing.{ActorStands, Becomes, BeginsAnew, BeginsAs, HasBegunAs, PlacesAs, HandStands, HandsBack, HasHappened, LandsAs, SlotStands, TellsAs, WorldStands, landing_out, landing_told, slot_at, taking, told_wants}
+use Rattle.stream_world.specs.Standing.{ActorStands, Becomes, BeginsAnew, BeginsAs, HasBegunAs, PlacesAs, HandStands, HandsBackFront, HasHappened, LandsAs, SlotStands, TellsAs, WorldStands, landing_out, landing_told, slot_at, taking, told_wants}
 use Rattle.stream_world.specs.declared.actor.Actor as code
 use Rattle.stream_world.specs.declared.actor.Hand as code_hand
 use Rattle.stream_world.specs.declared.actor.Hand.TheVariants as hands
@@ -88,7 +88,7 @@ known_lasts : (stood now : Objects) (known later : Loaded) → HasObjectsOf stoo
 known_lasts stood now known later grown same so = front_grown stood now grown later (subst (IsFront stood) (sym same) so)
 
 -- what is told hands back of the log what is so
-hands_back : (w : World) (met : Event) (told : Option (Job × Outcome)) (later : World) (outcome : Option code_end.JobEnd) (now : Objects) → TellsAs outcome told → Happens w met told later → later.objects ≡ now → BearsActors w → HandsBack now outcome
+hands_back : (w : World) (met : Event) (told : Option (Job × Outcome)) (later : World) (outcome : Option code_end.JobEnd) (now : Objects) → TellsAs outcome told → Happens w met told later → later.objects ≡ now → BearsActors w → HandsBackFront now outcome
 hands_back w met None later None now tells happens is borne = tt
 hands_back w met (Some told) later None now tells happens is borne = absurd tells
 hands_back w met None later (Some outcome) now tells happens is borne = absurd tells

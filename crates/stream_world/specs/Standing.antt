@@ -88,10 +88,10 @@ pub record CallMeets (how : How) (call : Asked) (told : Told) (objects : Objects
   pub left : objects_new ≡ left_how met objects call
   pub in_flight : flight_new ≡ flight_how met flight call
 
--- what a session that has ended hands back of the log is so of these objects
-abbrev pub HandsBack : Objects → Option code_end.JobEnd → Type 0
-HandsBack objects None = Unit {0}
-HandsBack objects (Some outcome) = KnowsFront objects (end_view outcome)
+-- what a session that has ended hands back of the log, of a load, a checkpoint, an append or a close, is so of these objects
+abbrev pub HandsBackFront : Objects → Option code_end.JobEnd → Type 0
+HandsBackFront objects None = Unit {0}
+HandsBackFront objects (Some outcome) = KnowsFront objects (end_view outcome)
 
 -- What became of a world by an event of the actor of a number, for whom this is kept then.
 pub record Becomes (w : World) (event : Event) (name : ℕ) (outcome : Option code_end.JobEnd) (objects : Objects) (flight : Flight) (slot : Option code_actor.Actor) : Type 0 where
@@ -135,7 +135,7 @@ pub record HasHappened {S : Type 0} (objects : S → Objects) (was_short : Bool)
   pub happens : Happens w met told later
   pub stands : WorldStands objects world later
   pub begins : BeginsAnew event later
-  pub hands : HandsBack (objects world.store.store) outcome
+  pub hands : HandsBackFront (objects world.store.store) outcome
   pub short : world.is_short ≡ (ran_out event met || (told_wants outcome || was_short))
   pub fits : ran_out event met ≡ true → FitsWorld w event
 

@@ -15,7 +15,7 @@ use Rattle.table_store.specs.Groups.{AreFilesOf, AreTxnsAndAdds, added, numbers}
 use Rattle.table_store.specs.Holds.{FileStands, FilesStand}
 use Rattle.table_store.specs.Schema.{Schema}
 use Rattle.table_store.proofs.Callers.{files_stand, given_batches}
-use Rattle.table_audit.specs.Entries.{Follows, GroupFollows, HasFile, HaveFiles}
+use Rattle.table_audit.specs.Entries.{EntryFollows, GroupFollows, HasFile, HaveFiles}
 
 -- the application and the number of a `txn`
 abbrev pub number_of : Bor Txn → List ℕ × ℕ
@@ -83,10 +83,10 @@ module _ (objects : Objects) (schema : Schema) where
 
     -- ---- entries
 
-    pub follows_group : GroupFollows objects schema log beside → Follows objects schema log beside
+    pub follows_group : GroupFollows objects schema log beside → EntryFollows objects schema log beside
     follows_group g = record { entry = group g.bs; stand = g.stand; files = files_stand objects schema (group g.bs) g.files; may = g.new }
 
-    pub follows_close : (application : List ℕ) → IsClose application beside → Follows objects schema log beside
+    pub follows_close : (application : List ℕ) → IsClose application beside → EntryFollows objects schema log beside
     follows_close application is = record { entry = close application; stand = is; files = files_stand objects schema (close application) tt; may = tt }
 
     by_entry : (entry : Entry) → StandFor schema entry beside → FilesStand objects schema entry → MayFollow log entry → ((application : List ℕ) → IsClose application beside → ⊥) → (GroupFollows objects schema log beside → ⊥) → ⊥
@@ -94,7 +94,7 @@ module _ (objects : Objects) (schema : Schema) where
     by_entry (group bs) stand files may no_close no_group = no_group (record { bs = bs; stand = stand; files = given_batches objects schema bs files.given; new = may })
     by_entry (close application) stand files may no_close no_group = no_close application stand
 
-    pub follows_none : ((application : List ℕ) → IsClose application beside → ⊥) → (GroupFollows objects schema log beside → ⊥) → Follows objects schema log beside → ⊥
+    pub follows_none : ((application : List ℕ) → IsClose application beside → ⊥) → (GroupFollows objects schema log beside → ⊥) → EntryFollows objects schema log beside → ⊥
     follows_none no_close no_group f = by_entry f.entry f.stand f.files f.may no_close no_group
 
 -- ---- numbers and files, place by place

@@ -12,7 +12,7 @@ use Rattle.table_store.specs.Holds.{FileStands, FilesStand}
 use Rattle.table_store.specs.Schema.{Schema}
 
 -- The actions stand for an entry that may follow the log, and its files stand.
-pub record Follows (objects : Objects) (schema : Schema) (log : List (List Action)) (beside : List Action) : Type 0 where
+pub record EntryFollows (objects : Objects) (schema : Schema) (log : List (List Action)) (beside : List Action) : Type 0 where
   pub entry : Entry
   pub stand : StandFor schema entry beside
   pub files : FilesStand objects schema entry

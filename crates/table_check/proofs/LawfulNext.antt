@@ -1,12 +1,12 @@
 -- Which entries may stand behind those of a lawful table.
-use Rattle.std.proofs.Common.{◌≡◌, ℕ, zero, suc, ◌<◌, true, false, List, [], ◌∷◌, ◌++◌, length, get_or, map, Contains, refl, sym, ap, subst, ◌∙◌, arith, inl, inr, ◌⊎◌, Option, Some, None}
+use Rattle.std.proofs.Common.{◌≡◌, ℕ, zero, suc, ◌<◌, true, false, List, [], ◌∷◌, ◌++◌, length, get_or, map, Contains, sym, ap, subst, ◌∙◌, arith, inl, inr, ◌⊎◌, Option, Some, None}
 use Rattle.std.specs.Prelude.{bytes_eq, filter}
 use Rattle.std.specs.List.{AllByRecursion, flat_map, list_any}
 use Rattle.std.proofs.lemmas.Bool.{cases_Bool, false≢true, or_left, or_right}
 use Rattle.std.proofs.lemmas.List.{append-nil}
 use Rattle.std.proofs.lemmas.Slice.Eq.{bytes_eq-Decides}
 use Rattle.table_model.specs.Lawful.{AreDifferent, Follows, IsLater, IsLawful, Rises, Suits}
-use Rattle.table_model.specs.Table.{Batch, Told, told_of, Entry, creation, group, close, closes_of, is_stream_closed, last_item, numbers_by}
+use Rattle.table_model.specs.Table.{Batch, ToldNumber, told_of, Entry, creation, group, close, closes_of, is_stream_closed, last_item, numbers_by}
 use Rattle.table_model.proofs.Batches.{IsAbove, Rises-push, filter-told, numbers_by-append, numbers_in}
 use Rattle.table_model.proofs.Kept.{close_follows, follows_keeps, lawful_follows}
 use Rattle.table_model.proofs.LawfulLemmas.{none_by}
@@ -23,7 +23,7 @@ application_among b (c ∷ bs) (inr more) = inr (application_among b bs more)
 
 -- where no batch is of an application, none of its numbers is told
 no_numbers : (application : List ℕ) (bs : List Batch) → filter (λ b. bytes_eq b.application application) bs ≡ [] → numbers_in application (map told_of bs) ≡ []
-no_numbers application bs none = ap (map (λ (t : Told). t.number)) (filter-told application bs ∙ ap (map told_of) none)
+no_numbers application bs none = ap (map (λ (t : ToldNumber). t.number)) (filter-told application bs ∙ ap (map told_of) none)
 
 -- of batches of different applications, an application has one number at most
 one_number : (b : Batch) (bs : List Batch) → AreDifferent (map (λ c. c.application) bs) → Among b bs → numbers_in b.application (map told_of bs) ≡ b.number ∷ []

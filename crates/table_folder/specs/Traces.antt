@@ -27,9 +27,9 @@ pub data FolderCall : Type 0 where
   looks : FolderCall
 
 -- what a call told, if it didn't fail
-abbrev pub told_by : {X Y : Type 0} → (X → Y) → Result X FolderFault → Option Y
-told_by view (Ok x) = Some (view x)
-told_by view (Err fault) = None
+abbrev pub answer_told : {X Y : Type 0} → (X → Y) → Result X FolderFault → Option Y
+answer_told view (Ok x) = Some (view x)
+answer_told view (Err fault) = None
 
 -- Just these calls were made, one behind the other: `makes` says what one call may make of a folder.
 abbrev pub Traced : {F : Type 0} → (makes : F → FolderCall → F → Type 0) → F → List FolderCall → F → Type 0

@@ -5,7 +5,7 @@ ghost use Rattle.std.specs.String.{string_bytes};
 ghost use Rattle.store_core.specs.Calls.{put_told};
 ghost use Rattle.store_core.specs.Objects.{Objects, object_at, names_of, with_object, IsInOrder};
 ghost use Rattle.table_folder.specs.Calls.{CountsFailure, FailsAmong, FailsAt, IsFailed, MayHaveMade};
-ghost use Rattle.table_folder.specs.Traces.{FolderCall, creates, finds, lists, looks, reads, told_by};
+ghost use Rattle.table_folder.specs.Traces.{FolderCall, creates, finds, lists, looks, reads, answer_told};
 
 use crate::FolderFault;
 use store_core::Put;
@@ -43,7 +43,7 @@ pub trait Folder {
             → IfOk result (λ names. map string_bytes names.items ≡ names_of (objects self.old)) }
         ensures untouched { is_steady self.old → objects self.new ≡ objects self.old }
         ensures steady { is_steady self.old → is_steady self.new }
-        ensures called { makes self.old (lists (told_by (λ names. map string_bytes names.items) result)) self.new }
+        ensures called { makes self.old (lists (answer_told (λ names. map string_bytes names.items) result)) self.new }
 
         ensures named { is_steady self.old → FailsAmong (path self.old ∷ names_of (objects self.old)) result }
         ensures faults { CountsFailure result (fault_count self.old) (fault_count self.new) }
@@ -56,7 +56,7 @@ pub trait Folder {
             ≡ object_at (objects self.old) name.now) }
         ensures untouched { is_steady self.old → objects self.new ≡ objects self.old }
         ensures steady { is_steady self.old → is_steady self.new }
-        ensures called { makes self.old (reads name.now (told_by (option_map (λ bytes. bytes.items)) result)) self.new }
+        ensures called { makes self.old (reads name.now (answer_told (option_map (λ bytes. bytes.items)) result)) self.new }
 
         ensures named { FailsAt name.now result }
         ensures faults { CountsFailure result (fault_count self.old) (fault_count self.new) }
@@ -69,7 +69,7 @@ pub trait Folder {
             ≡ object_at (objects self.old) name.now) }
         ensures untouched { is_steady self.old → objects self.new ≡ objects self.old }
         ensures steady { is_steady self.old → is_steady self.new }
-        ensures called { makes self.old (finds name.now (told_by (option_map (λ bytes. bytes.items)) result)) self.new }
+        ensures called { makes self.old (finds name.now (answer_told (option_map (λ bytes. bytes.items)) result)) self.new }
 
         ensures named { FailsAt name.now result }
         ensures faults { CountsFailure result (fault_count self.old) (fault_count self.new) }
@@ -88,7 +88,7 @@ pub trait Folder {
         ensures memory { is_steady self.old → IsErrOf result FolderFault.Memory
             → objects self.new ≡ objects self.old }
         ensures steady { is_steady self.old → is_steady self.new }
-        ensures called { makes self.old (creates name.now bytes.items (told_by (λ put. put) result)) self.new }
+        ensures called { makes self.old (creates name.now bytes.items (answer_told (λ put. put) result)) self.new }
 
         ensures named { FailsAt name.now result }
         ensures faults { CountsFailure result (fault_count self.old) (fault_count self.new) }

@@ -1,5 +1,5 @@
 -- The jobs that there are: what each is to do, what its session asks for and tells behind a talk of its own, and which can begin.
-use Rattle.std.specs.Prelude.{◌≡◌, ◌≤◌, ℕ, Bool, Result, length}
+use Rattle.std.specs.Prelude.{◌≡◌, ◌≤◌, ℕ, Bool, List, [], ◌∷◌, Result, length}
 use Rattle.std.specs.Str.{IsUtf8}
 use Rattle.session_core.specs.Talks.{Asked, Talk}
 use Rattle.table_log.specs.LoadSessions.{LoadAsks, LoadEnds, LoadJob, is_lost_load}
@@ -10,7 +10,9 @@ use Rattle.snapshot_core.specs.declared.checkpoint_session.CheckpointEnd.{Checkp
 use Rattle.commit_core.specs.CreateSessions.{CreateAsks, CreateEnds, CreateJob, creation_tells_lost}
 use Rattle.commit_core.specs.declared.fault.CreateFault.{CreateFault}
 use Rattle.sink_core.specs.SinkSessions.{SinkAsks, SinkEnds, SinkJob, is_lost_end}
+use Rattle.batch_core.specs.declared.fault.SinkFault.{SinkFault}
 use Rattle.sink_core.specs.declared.sink_state.SinkEnd.{SinkEnd}
+use Rattle.sink_core.specs.declared.sink_state.SinkOutcome.{SinkOutcome}
 use Rattle.source_core.specs.SourceSessions.{SourceAsks, SourceEnds, SourceJob, is_lost_read}
 use Rattle.source_core.specs.declared.source_session.ReadEnd.{ReadEnd}
 
@@ -30,6 +32,16 @@ pub data Outcome : Type 0 where
   checkpoint : CheckpointEnd → Outcome
   stream : SinkEnd → Outcome
   read : ReadEnd → Outcome
+
+-- The appends and closes of which a job consists, its items, each as a job by itself: that of a stream has itself for its one item.
+abbrev pub job_items : Job → List SinkJob
+job_items (streams job) = job ∷ []
+job_items job = []
+
+-- each of them with what was told of it
+abbrev pub item_answers : Job → Outcome → List (SinkJob × Result SinkOutcome SinkFault)
+item_answers (streams job) (stream end) = (job, end.answer) ∷ []
+item_answers job outcome = []
 
 -- what a job asks for, behind a talk of its own and what was known before it
 abbrev pub Asks : Job → (before talk : Talk) → Asked → Type 0

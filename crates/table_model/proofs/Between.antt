@@ -7,7 +7,7 @@ use Rattle.std.proofs.lemmas.Slice.Eq.{bytes_eq-Decides}
 use Rattle.std.proofs.lemmas.List.{append-nil}
 use Rattle.std.proofs.lemmas.List.Concat.{flat_map-append}
 use Rattle.std.proofs.lemmas.List.Elements.{Contains-append_cases}
-use Rattle.table_model.specs.Table.{Path, Told, Entry, creation, group, close, closes_of, has_protocol, names, numbers_by, tells}
+use Rattle.table_model.specs.Table.{FileName, ToldNumber, Entry, creation, group, close, closes_of, has_protocol, names, numbers_by, tells}
 use Rattle.table_model.specs.Lawful.{Begins, Follows, IsLater, IsLawful, Rises, Suits}
 use Rattle.table_model.proofs.Batches.{numbers_in, numbers_by-append}
 use Rattle.table_model.proofs.Facts.{Begins-front, lawful-front}
@@ -23,10 +23,10 @@ pub record AreApart (between last : Entry) : Type 0 where
   pub protocol : has_protocol between ≡ true → ⊥
   pub applications : (application : List ℕ) → Contains (writes between) application → Contains (writes last) application → ⊥
   pub closes : (application : List ℕ) → Contains (closes_of between) application → Contains (writes last) application → ⊥
-  pub paths : (path : Path) → Contains (names between) path → Contains (names last) path → ⊥
+  pub paths : (path : FileName) → Contains (names between) path → Contains (names last) path → ⊥
 
 -- an application of which a number is told is written
-written : (application : List ℕ) (ts : List Told) (n : ℕ) (ns : List ℕ) → numbers_in application ts ≡ n ∷ ns → Contains (map (λ t. t.application) ts) application
+written : (application : List ℕ) (ts : List ToldNumber) (n : ℕ) (ns : List ℕ) → numbers_in application ts ≡ n ∷ ns → Contains (map (λ t. t.application) ts) application
 written application [] n ns e = absurd cc
 written application (t ∷ ts) n ns e =
     elim (cases_Bool (bytes_eq t.application application)) [
@@ -38,7 +38,7 @@ written application (t ∷ ts) n ns e =
     ]
 
 written_by : (application : List ℕ) (e : Entry) (n : ℕ) (ns : List ℕ) → numbers_by application (e ∷ []) ≡ n ∷ ns → Contains (writes e) application
-written_by application e n ns is = written application (tells e) n ns (ap (λ (ts : List Told). numbers_in application ts) (sym (append-nil (tells e))) ∙ is)
+written_by application e n ns is = written application (tells e) n ns (ap (λ (ts : List ToldNumber). numbers_in application ts) (sym (append-nil (tells e))) ∙ is)
 
 -- ---- by kinds
 

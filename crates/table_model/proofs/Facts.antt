@@ -8,7 +8,7 @@ use Rattle.std.proofs.lemmas.Slice.Eq.{bytes_eq-Decides}
 use Rattle.std.proofs.lemmas.List.{append-nil}
 use Rattle.std.proofs.lemmas.List.Elements.{All-contains, All-contains_itself, All-filter, Contains-append_cases, Contains-append_left, Contains-push, filter_passes}
 use Rattle.row_core.specs.Rows.{Row}
-use Rattle.table_model.specs.Table.{Batch, Told, Entry, creation, group, close, closes_of, tells, told_of, batches, told_by, numbers_by, last_item, last_told, is_stream_closed}
+use Rattle.table_model.specs.Table.{Batch, ToldNumber, Entry, creation, group, close, closes_of, tells, told_of, batches, told_by, numbers_by, last_item, last_told, is_stream_closed}
 use Rattle.table_model.specs.Appends.{are_rows, appended, appended_new, appended_behind, with_batch, closing, with_close, TellsAppend, TellsClose}
 use Rattle.table_model.specs.Lawful.{Begins, IsLater, Rises, IsLawful}
 use Rattle.table_model.specs.declared.table.AppendAnswer.{AppendAnswer}
@@ -34,23 +34,37 @@ Contains-map f [] x among = absurd (omega (arith, among.1))
 Contains-map f (y ∷ xs) x (zero, lt, is) = (zero, omega arith, ap f is)
 Contains-map f (y ∷ xs) x (suc k, lt, is) = let on = Contains-map f xs x (k, omega (arith, lt), is) in (suc on.0, omega (arith, on.1), on.2)
 
+-- each member of a mapped list is that of one of the list's
+pub member_mapped : {A B : Type 0} (f : A → B) (xs : List A) (y : B) → Contains (map f xs) y → (x : A) × Contains xs x × (f x ≡ y)
+member_mapped f [] y among = absurd (omega (arith, among.1))
+member_mapped f (x ∷ xs) y (zero, lt, is) = (x, (0, omega arith, refl), is)
+member_mapped f (x ∷ xs) y (suc k, lt, is) =
+    let later = member_mapped f xs y (k, omega (arith, lt), is) in
+    (later.0, (suc later.1.0, omega (arith, later.1.1), later.1.2), later.2)
+
+-- of members that all have a property each one has it
+pub each_has : {A : Type 0} (P : A → Type 0) (xs : List A) (x : A) → AllByRecursion P xs → Contains xs x → P x
+each_has P [] x all among = absurd (omega (arith, among.1))
+each_has P (y ∷ xs) x all (zero, lt, is) = subst P is all.0
+each_has P (y ∷ xs) x all (suc k, lt, is) = each_has P xs x all.1 (k, omega (arith, lt), is)
+
 pub none_behind : {A : Type 0} (xs ys : List A) → xs ++ ys ≡ [] → (xs ≡ []) × (ys ≡ [])
 none_behind [] ys e = (refl, e)
 none_behind (x ∷ xs) ys e = absurd cc
 
 -- ---- what the tests of an append find
 
-last_among : (application : List ℕ) (entries : List Entry) (t : Told) → last_told application entries ≡ Some t → Contains (told_by application entries) t
-last_among application entries t is = let cut = last_some (told_by application entries) t is in subst (λ (ts : List Told). Contains ts t) (sym cut.1) (Contains-push cut.0 t)
+last_among : (application : List ℕ) (entries : List Entry) (t : ToldNumber) → last_told application entries ≡ Some t → Contains (told_by application entries) t
+last_among application entries t is = let cut = last_some (told_by application entries) t is in subst (λ (ts : List ToldNumber). Contains ts t) (sym cut.1) (Contains-push cut.0 t)
 
 -- and so is its number
-last_number_stands : (application : List ℕ) (entries : List Entry) (t : Told) → last_told application entries ≡ Some t → Contains (numbers_by application entries) t.number
-last_number_stands application entries t is = Contains-map (λ (u : Told). u.number) (told_by application entries) t (last_among application entries t is)
+last_number_stands : (application : List ℕ) (entries : List Entry) (t : ToldNumber) → last_told application entries ≡ Some t → Contains (numbers_by application entries) t.number
+last_number_stands application entries t is = Contains-map (λ (u : ToldNumber). u.number) (told_by application entries) t (last_among application entries t is)
 
 -- what is told last of an application is told in the table
-pub last_stands : (application : List ℕ) (entries : List Entry) (t : Told) → last_told application entries ≡ Some t → Contains (flat_map tells entries) t × (t.application ≡ application)
+pub last_stands : (application : List ℕ) (entries : List Entry) (t : ToldNumber) → last_told application entries ≡ Some t → Contains (flat_map tells entries) t × (t.application ≡ application)
 last_stands application entries t is =
-    let own : Told → Bool = λ u. bytes_eq u.application application in
+    let own : ToldNumber → Bool = λ u. bytes_eq u.application application in
     let all = flat_map tells entries in
     let among = last_among application entries t is in
     let stands = All-contains (Contains all) (told_by application entries) t (All-filter own (Contains all) all (All-contains_itself all)) among in
@@ -60,18 +74,21 @@ last_stands application entries t is =
 -- of one batch alone is told what it tells
 told_is : (b c : Batch) → told_of b ≡ told_of c → b ≡ c
 told_is b c e =
-    let told : Some b.rows ≡ Some c.rows = ap (λ (t : Told). t.rows) e in
+    let told : Some b.rows ≡ Some c.rows = ap (λ (t : ToldNumber). t.rows) e in
     let rows : b.rows ≡ c.rows = cc in
     λ i. record { application = (e i).application; number = (e i).number; rows = rows i }
 
-batch_among : (bs : List Batch) (b : Batch) → Contains (map told_of bs) (told_of b) → Contains bs b
-batch_among [] b among = absurd (omega (arith, among.1))
-batch_among (c ∷ bs) b (zero, lt, is) = (0, omega arith, told_is c b is)
-batch_among (c ∷ bs) b (suc k, lt, is) = let on = batch_among bs b (k, omega (arith, lt), is) in (suc on.0, omega (arith, on.1), on.2)
+-- what a batch tells is told in its table
+pub batch_told : (entries : List Entry) (b : Batch) → Contains (batches entries) b → Contains (flat_map tells entries) (told_of b)
+batch_told entries b has = subst (λ (ts : List ToldNumber). Contains ts (told_of b)) (sym (told-batches entries)) (Contains-map told_of (batches entries) b has)
+
+-- and what is told there, a batch tells
+pub told_batch : (entries : List Entry) (t : ToldNumber) → Contains (flat_map tells entries) t → (b : Batch) × Contains (batches entries) b × (told_of b ≡ t)
+told_batch entries t told = member_mapped told_of (batches entries) t (subst (λ (ts : List ToldNumber). Contains ts t) (told-batches entries) told)
 
 -- a batch stands whose number is told with its rows
 pub batch_of_told : (entries : List Entry) (b : Batch) → Contains (flat_map tells entries) (told_of b) → Contains (batches entries) b
-batch_of_told entries b told = batch_among (batches entries) b (subst (λ (ts : List Told). Contains ts (told_of b)) (told-batches entries) told)
+batch_of_told entries b told = let found = told_batch entries (told_of b) told in subst (Contains (batches entries)) (told_is found.0 b found.2) found.1
 
 -- a list whose pieces together have y, cut at the one that has it
 pub record IsCut {A B : Type 0} (f : A → List B) (xs : List A) (y : B) : Type 0 where
@@ -124,12 +141,12 @@ rows_are rows (Some others) e = ap (λ (rs : List Row). Some rs) (sym ((same_row
 pub rows_are_themselves : (rows : List Row) → are_rows rows (Some rows) ≡ true
 rows_are_themselves rows = (same_rows-is rows rows).1 refl
 
-behind_tells : (b : Batch) (entries : List Entry) (before : Option Told) → last_told b.application entries ≡ before → TellsAppend (appended_behind b entries before) b (with_batch (appended_behind b entries before) b entries)
+behind_tells : (b : Batch) (entries : List Entry) (before : Option ToldNumber) → last_told b.application entries ≡ before → TellsAppend (appended_behind b entries before) b (with_batch (appended_behind b entries before) b entries)
 behind_tells b entries None is = new_tells b entries (rw (last_number b.application entries, is) tt)
 behind_tells b entries (Some before) is =
     let found = last_stands b.application entries before is in
     let named : before ≡ record { application = b.application; number = before.number; rows = before.rows } = λ i. record { application = found.1 i; number = before.number; rows = before.rows } in
-    let stands : Contains (flat_map tells entries) (record { application = b.application; number = before.number; rows = before.rows }) = subst (λ (t : Told). Contains (flat_map tells entries) t) named found.0 in
+    let stands : Contains (flat_map tells entries) (record { application = b.application; number = before.number; rows = before.rows }) = subst (λ (t : ToldNumber). Contains (flat_map tells entries) t) named found.0 in
     elim (cases_Bool (ltb b.number before.number)) [
       | inl below ↦ rw below (ltb-true b.number before.number below, last_number_stands b.application entries before is)
       | inr over ↦ elim (cases_Bool (eqb b.number before.number)) [
@@ -172,7 +189,7 @@ new_version b version entries e =
       | inr fresh ↦ let is : Committed (length entries) ≡ Committed version = rw fresh at e in committed_is (length entries) version is
     ]
 
-behind_version : (b : Batch) (version : ℕ) (entries : List Entry) (before : Option Told) → appended_behind b entries before ≡ Committed version → version ≡ length entries
+behind_version : (b : Batch) (version : ℕ) (entries : List Entry) (before : Option ToldNumber) → appended_behind b entries before ≡ Committed version → version ≡ length entries
 behind_version b version entries None e = new_version b version entries e
 behind_version b version entries (Some before) e =
     elim (cases_Bool (ltb b.number before.number)) [
@@ -233,8 +250,8 @@ pub batch_lasts : (b : Batch) (entries more : List Entry) → Contains (batches 
 batch_lasts b entries more stands = subst (λ (bs : List Batch). Contains bs b) (sym (batches-append entries more)) (Contains-append_left (batches entries) (batches more) b stands)
 
 -- what is told once stays told
-told_lasts : (t : Told) (entries more : List Entry) → Contains (flat_map tells entries) t → Contains (flat_map tells (entries ++ more)) t
-told_lasts t entries more stands = subst (λ (ts : List Told). Contains ts t) (sym (flat_map-append tells entries more)) (Contains-append_left (flat_map tells entries) (flat_map tells more) t stands)
+told_lasts : (t : ToldNumber) (entries more : List Entry) → Contains (flat_map tells entries) t → Contains (flat_map tells (entries ++ more)) t
+told_lasts t entries more stands = subst (λ (ts : List ToldNumber). Contains ts t) (sym (flat_map-append tells entries more)) (Contains-append_left (flat_map tells entries) (flat_map tells more) t stands)
 
 number_lasts : (application : List ℕ) (n : ℕ) (entries more : List Entry) → Contains (numbers_by application entries) n → Contains (numbers_by application (entries ++ more)) n
 number_lasts application n entries more stands = subst (λ (ns : List ℕ). Contains ns n) (sym (numbers_by-append application entries more)) (Contains-append_left (numbers_by application entries) (numbers_by application more) n stands)

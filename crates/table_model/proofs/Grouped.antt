@@ -1,11 +1,11 @@
 -- Batches of different applications, each of which an append commits, follow together as one group.
-use Rattle.std.proofs.Common.{◌≡◌, ◌≢◌, ℕ, zero, suc, ◌<◌, Bool, true, false, eqb, ltb, List, [], ◌∷◌, ◌++◌, length, map, slice_index_or, Option, Some, None, Contains, refl, sym, ap, subst, ◌∙◌, arith, inl, inr, ◌⊎◌, cond}
+use Rattle.std.proofs.Common.{◌≡◌, ◌≢◌, ℕ, zero, suc, ◌<◌, true, false, eqb, ltb, List, [], ◌∷◌, ◌++◌, length, map, slice_index_or, Option, Some, None, Contains, refl, sym, ap, subst, ◌∙◌, arith, inl, inr, ◌⊎◌}
 use Rattle.std.specs.Prelude.{option_map, bytes_eq}
 use Rattle.std.specs.List.{AllByRecursion, flat_map}
 use Rattle.std.proofs.lemmas.Bool.{false≢true, cases_Bool, eqb-false, ltb-false}
 use Rattle.std.proofs.lemmas.Slice.Eq.{bytes_eq-Decides}
 use Rattle.std.proofs.lemmas.List.{append-nil}
-use Rattle.table_model.specs.Table.{Batch, Told, Entry, group, closes_of, tells, told_by, numbers_by, last_item, last_told, is_stream_closed}
+use Rattle.table_model.specs.Table.{Batch, ToldNumber, Entry, group, closes_of, tells, numbers_by, last_item, last_told, is_stream_closed}
 use Rattle.table_model.specs.Appends.{are_rows, appended, appended_new, appended_behind}
 use Rattle.table_model.specs.Lawful.{AreDifferent, Follows, IsLawful, Rises}
 use Rattle.table_model.specs.declared.table.AppendAnswer.TheVariants.{Committed, Already, Stale, Differs, StreamClosed}
@@ -25,7 +25,7 @@ still_open b entries version e =
       | inr fresh ↦ fresh
     ]
 
-new_behind : (b : Batch) (entries : List Entry) (version : ℕ) (before : Option Told) → appended_behind b entries before ≡ Committed version
+new_behind : (b : Batch) (entries : List Entry) (version : ℕ) (before : Option ToldNumber) → appended_behind b entries before ≡ Committed version
     → IsAbove b.number (option_map (λ t. t.number) before) × (is_stream_closed b.application entries ≡ false)
 new_behind b entries version None e = (tt, still_open b entries version e)
 new_behind b entries version (Some before) e =
@@ -87,9 +87,9 @@ pub group_follows : (entries : List Entry) (bs : List Batch) → IsLawful entrie
     → Follows entries (group bs)
 group_follows entries bs lawful some different new = record {
   suits = (some, different);
-  rises = λ application. subst Rises (sym (numbers_by-append application entries (group bs ∷ []) ∙ ap (λ (ts : List Told). numbers_by application entries ++ numbers_in application ts) (append-nil (tells (group bs)))))
+  rises = λ application. subst Rises (sym (numbers_by-append application entries (group bs ∷ []) ∙ ap (λ (ts : List ToldNumber). numbers_by application entries ++ numbers_in application ts) (append-nil (tells (group bs)))))
       (by_one application (one_told application bs different));
-  closed = λ application shut. ap (λ (ts : List Told). numbers_in application ts) (append-nil (tells (group bs))) ∙ none_shut application shut (one_told application bs different);
+  closed = λ application shut. ap (λ (ts : List ToldNumber). numbers_in application ts) (append-nil (tells (group bs))) ∙ none_shut application shut (one_told application bs different);
 }
   where
     new_one : (b : Batch) → Contains bs b → IsNew b entries

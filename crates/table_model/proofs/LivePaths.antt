@@ -9,20 +9,20 @@ use Rattle.std.proofs.lemmas.List.Concat.{flat_map-append}
 use Rattle.std.proofs.lemmas.List.Elements.{All-contains, All-contains_itself, All-filter, All-map, All-weaker, Contains-append_cases, Contains-append_left, Contains-append_right}
 use Rattle.std.proofs.lemmas.List.Folds.{list_any-append}
 use Rattle.std.proofs.lemmas.Map.Views.{Contains-from_any}
-use Rattle.table_model.specs.Table.{Path, of_batch, named, Batch, File, Told, Entry, creation, group, close, file_of, told_of, gives, names, numbers_by, takes, tells}
-use Rattle.table_model.specs.Live.{same_path, is_path_among, live, newest_behind, newest_from}
+use Rattle.table_model.specs.Table.{FileName, of_batch, named, Batch, File, ToldNumber, Entry, creation, group, close, batch_file, told_of, gives, names, numbers_by, takes, tells}
+use Rattle.table_model.specs.Live.{is_same_path, is_path_among, live, newest_behind, newest_from}
 use Rattle.table_model.specs.Lawful.{AreDifferent, IsLawful, Rises, Suits}
 use Rattle.table_model.proofs.Batches.{numbers_in, numbers_by-append, Rises-apart, Rises-front}
 use Rattle.table_model.proofs.Facts.{Contains-map}
 use Rattle.table_model.proofs.Live.{along, live-push, without}
 
-abbrev paths_of : List File → List Path
+abbrev paths_of : List File → List FileName
 paths_of files = map (λ f. f.path) files
 
 -- ---- paths that differ
 
 -- what is left was there
-was_path : (stays : File → Bool) (files : List File) (p : Path) → Contains (paths_of (filter stays files)) p → Contains (paths_of files) p
+was_path : (stays : File → Bool) (files : List File) (p : FileName) → Contains (paths_of (filter stays files)) p → Contains (paths_of files) p
 was_path stays files p among =
     let each = All-weaker (Contains files) (λ f. Contains (paths_of files) f.path) (λ f here. Contains-map (λ (g : File). g.path) files f here) files (All-contains_itself files) in
     let left = All-filter stays (λ f. Contains (paths_of files) f.path) files each in
@@ -47,11 +47,11 @@ different_append (x ∷ xs) ys d e apart = (
 )
 
 -- batches of different applications have different paths
-different_batches : (bs : List Batch) → AreDifferent (map (λ b. b.application) bs) → AreDifferent (paths_of (map file_of bs))
+different_batches : (bs : List Batch) → AreDifferent (map (λ b. b.application) bs) → AreDifferent (paths_of (map batch_file bs))
 different_batches [] d = tt
 different_batches (b ∷ bs) d = (λ among. d.0 (writer bs among), different_batches bs d.1)
   where
-    writer : (cs : List Batch) → Contains (paths_of (map file_of cs)) (of_batch b.application b.number) → Contains (map (λ c. c.application) cs) b.application
+    writer : (cs : List Batch) → Contains (paths_of (map batch_file cs)) (of_batch b.application b.number) → Contains (map (λ c. c.application) cs) b.application
     writer [] among = absurd (omega (arith, among.1))
     writer (c ∷ cs) (zero, lt, is) = let same : c.application ≡ b.application = cc in (0, omega arith, same)
     writer (c ∷ cs) (suc k, lt, is) = let on = writer cs (k, omega (arith, lt), is) in (suc on.0, omega (arith, on.1), on.2)
@@ -60,9 +60,9 @@ different_batches (b ∷ bs) d = (λ among. d.0 (writer bs among), different_bat
 
 given_told : (before : List Entry) (e : Entry) → Suits before e → (a : List ℕ) (n : ℕ) → Contains (paths_of (gives e)) (of_batch a n) → Contains (numbers_by a (e ∷ [])) n
 given_told before creation suits a n among = absurd (omega (arith, among.1))
-given_told before (group bs) suits a n among = subst (λ (ts : List Told). Contains (numbers_in a ts) n) (sym (append-nil (tells (group bs)))) (in_batches bs among)
+given_told before (group bs) suits a n among = subst (λ (ts : List ToldNumber). Contains (numbers_in a ts) n) (sym (append-nil (tells (group bs)))) (in_batches bs among)
   where
-    in_batches : (cs : List Batch) → Contains (paths_of (map file_of cs)) (of_batch a n) → Contains (numbers_in a (map told_of cs)) n
+    in_batches : (cs : List Batch) → Contains (paths_of (map batch_file cs)) (of_batch a n) → Contains (numbers_in a (map told_of cs)) n
     in_batches [] there = absurd (omega (arith, there.1))
     in_batches (c ∷ cs) (zero, lt, is) =
         let application : c.application ≡ a = cc in
@@ -87,19 +87,19 @@ pub record LeavesOnce (entries : List Entry) : Type 0 where
   -- a file under a batch's name is that of a number that was told
   pub told : (a : List ℕ) (n : ℕ) → Contains (paths_of (live entries)) (of_batch a n) → Contains (numbers_by a entries) n
   -- all that is there was named
-  pub named : (p : Path) → Contains (paths_of (live entries)) p → Contains (flat_map names entries) p
+  pub named : (p : FileName) → Contains (paths_of (live entries)) p → Contains (flat_map names entries) p
   pub different : AreDifferent (paths_of (live entries))
   pub newest : newest_from [] entries ≡ live entries
 
 -- no batch's file lies elsewhere
-none_elsewhere : (bs : List Batch) (key : List ℕ) → Contains (paths_of (map file_of bs)) (named key) → ⊥
+none_elsewhere : (bs : List Batch) (key : List ℕ) → Contains (paths_of (map batch_file bs)) (named key) → ⊥
 none_elsewhere [] key among = omega (arith, among.1)
 none_elsewhere (b ∷ bs) key (zero, lt, is) = absurd cc
 none_elsewhere (b ∷ bs) key (suc k, lt, is) = none_elsewhere bs key (k, omega (arith, lt), is)
 
 -- what an entry gives wasn't there
 fresh : (front : List Entry) (e : Entry) → Suits front e → ((a : List ℕ) → Rises (numbers_by a front ++ numbers_by a (e ∷ []))) → LeavesOnce front
-    → (p : Path) → Contains (paths_of (live front)) p → Contains (paths_of (gives e)) p → ⊥
+    → (p : FileName) → Contains (paths_of (live front)) p → Contains (paths_of (gives e)) p → ⊥
 fresh front creation suits rises l p old new = omega (arith, new.1)
 fresh front (group bs) suits rises l (of_batch a n) old new =
     let below = Rises-apart (numbers_by a front) (numbers_by a (group bs ∷ [])) n n (rises a) (l.told a n old) (given_told front (group bs) suits a n new) in
@@ -107,7 +107,7 @@ fresh front (group bs) suits rises l (of_batch a n) old new =
 fresh front (group bs) suits rises l (named key) old new = none_elsewhere bs key new
 fresh front (close application) suits rises l p old new = omega (arith, new.1)
 
-same_path-is : (p q : Path) → same_path p q ≡ true → p ≡ q
+same_path-is : (p q : FileName) → is_same_path p q ≡ true → p ≡ q
 same_path-is (of_batch a n) (of_batch b m) e =
     let both = and_parts (bytes_eq a b) (n == m) e in
     let application : a ≡ b = (bytes_eq-Decides a b).0 both.0 in
@@ -118,14 +118,14 @@ same_path-is (named k) (of_batch b m) e = absurd (false≢true e)
 same_path-is (named k) (named l) e = let key : k ≡ l = (bytes_eq-Decides k l).0 e in cc
 
 -- where nothing that is there is given, what is named besides what is taken takes nothing
-same_left : (taken given : List Path) (files : List File) → ((p : Path) → Contains (paths_of files) p → Contains given p → ⊥) → without (taken ++ given) files ≡ without taken files
+same_left : (taken given : List FileName) (files : List File) → ((p : FileName) → Contains (paths_of files) p → Contains given p → ⊥) → without (taken ++ given) files ≡ without taken files
 same_left taken given [] apart = refl
 same_left taken given (f ∷ files) apart =
     let none : is_path_among given f.path ≡ false = false_from_ne_true (is_path_among given f.path) (λ some. apart f.path (0, omega arith, refl) (Contains-from_any same_path-is f.path given some)) in
     let others = same_left taken given files (λ p here there. apart p (Contains-append_right (f.path ∷ []) (paths_of files) p here) there) in
     elim (cases_Bool (is_path_among taken f.path)) [
-      | inl yes_ ↦ rw (list_any-append (same_path f.path) taken given, yes_) others
-      | inr no_ ↦ rw (list_any-append (same_path f.path) taken given, no_, none) (ap (λ (fs : List File). f ∷ fs) others)
+      | inl yes_ ↦ rw (list_any-append (is_same_path f.path) taken given, yes_) others
+      | inr no_ ↦ rw (list_any-append (is_same_path f.path) taken given, no_, none) (ap (λ (fs : List File). f ∷ fs) others)
     ]
 
 newest_from-push : (files : List File) (entries : List Entry) (e : Entry) → newest_from files (entries ++ e ∷ []) ≡ newest_behind (newest_from files entries) e
@@ -143,7 +143,7 @@ module _ (front rest : List Entry) (e : Entry) (lawful : IsLawful (front ++ e �
       let parts = numbers_by-append a front (e ∷ rest) ∙ ap (λ (ns : List ℕ). numbers_by a front ++ ns) (numbers_by-append a (e ∷ []) rest) ∙ sym (append_assoc (numbers_by a front) (numbers_by a (e ∷ [])) (numbers_by a rest)) in
       Rises-front (numbers_by a front ++ numbers_by a (e ∷ [])) (numbers_by a rest) (subst Rises parts (lawful.rises a))
 
-  apart : (p : Path) → Contains (paths_of (live front)) p → Contains (paths_of (gives e)) p → ⊥
+  apart : (p : FileName) → Contains (paths_of (live front)) p → Contains (paths_of (gives e)) p → ⊥
   apart p old new = fresh front e suits rises l p old new
 
   abbrev left : List File
@@ -152,9 +152,9 @@ module _ (front rest : List Entry) (e : Entry) (lawful : IsLawful (front ++ e �
   paths-push : paths_of (live (front ++ e ∷ [])) ≡ paths_of left ++ paths_of (gives e)
   paths-push = ap paths_of (live-push front e) ∙ map-append (λ (f : File). f.path) left (gives e)
 
-  there_or_given : (p : Path) → Contains (paths_of (live (front ++ e ∷ []))) p → Contains (paths_of (live front)) p ⊎ Contains (paths_of (gives e)) p
+  there_or_given : (p : FileName) → Contains (paths_of (live (front ++ e ∷ []))) p → Contains (paths_of (live front)) p ⊎ Contains (paths_of (gives e)) p
   there_or_given p among =
-      elim (Contains-append_cases (paths_of left) (paths_of (gives e)) p (subst (λ (ps : List Path). Contains ps p) paths-push among)) [
+      elim (Contains-append_cases (paths_of left) (paths_of (gives e)) p (subst (λ (ps : List FileName). Contains ps p) paths-push among)) [
         | inl old ↦ inl (was_path (λ f. not (is_path_among (takes e) f.path)) (live front) p old)
         | inr new ↦ inr new
       ]
@@ -166,9 +166,9 @@ module _ (front rest : List Entry) (e : Entry) (lawful : IsLawful (front ++ e �
         | inr new ↦ Contains-append_right (numbers_by a front) (numbers_by a (e ∷ [])) n (given_told front e suits a n new)
       ])
 
-  named_on : (p : Path) → Contains (paths_of (live (front ++ e ∷ []))) p → Contains (flat_map names (front ++ e ∷ [])) p
+  named_on : (p : FileName) → Contains (paths_of (live (front ++ e ∷ []))) p → Contains (flat_map names (front ++ e ∷ [])) p
   named_on p among =
-      subst (λ (ps : List Path). Contains ps p) (sym (flat_map-append names front (e ∷ []))) (elim (there_or_given p among) [
+      subst (λ (ps : List FileName). Contains ps p) (sym (flat_map-append names front (e ∷ []))) (elim (there_or_given p among) [
         | inl old ↦ Contains-append_left (flat_map names front) (names e ++ []) p (l.named p old)
         | inr new ↦ Contains-append_right (flat_map names front) (names e ++ []) p (Contains-append_left (names e) [] p (Contains-append_right (takes e) (paths_of (gives e)) p new))
       ])

@@ -1,14 +1,14 @@
 //! Laws of the plain table, each a function with an empty body whose contract is the law.
 
-ghost use Rattle.std.specs.Prelude.{◌≡◌, ◌≢◌, ◌↔◌, ◌<◌, ◌≤◌, ◌-◌, ◌⊎◌, IsTrue, ℕ, List, [], ◌∷◌, ◌++◌, length, map, take, drop, true, Some};
+ghost use Rattle.std.specs.Prelude.{◌≡◌, ◌≢◌, ◌↔◌, ◌<◌, ◌≤◌, ◌-◌, ◌⊎◌, ℕ, List, [], ◌∷◌, ◌++◌, length, map, take, drop, true, Some};
 ghost use Rattle.std.specs.List.{AllByRecursion, flat_map};
 ghost use Rattle.row_core.specs.Rows.{Row};
 ghost use Rattle.table_model.specs.Table.{Batch, Entry, creation, group, batches, told_of, last_told, rows};
 ghost use Rattle.table_model.specs.Appends.{appended, with_batch, with_close};
 ghost use Rattle.table_model.specs.Reads.{read, handed, position, is_offset, end};
 ghost use Rattle.table_model.specs.Resumed.{reads_on, growth, beginning};
-ghost use Rattle.table_model.specs.Lawful.{AreDifferent, Follows, IsLater, IsLawful};
-ghost use Rattle.table_model.specs.Live.{SameCounts, file_rows, live, newest_from};
+ghost use Rattle.table_model.specs.Lawful.{AreDifferent, Follows, IsLater, IsLawful, Suits};
+ghost use Rattle.table_model.specs.Live.{SameCounts, rows_of_files, live, newest_from};
 ghost use Rattle.table_model.specs.declared.reading.Offset.{Offset};
 ghost use Rattle.table_model.specs.declared.table.AppendAnswer.TheVariants.{Already, Committed};
 
@@ -58,11 +58,12 @@ pub fn rows_are_those_of_the_batches()
     ensures { (entries : List Entry) → rows entries ≡ flat_map (λ b. b.rows) (batches entries) }
 {}
 
-/// The files that a lawful log leaves have the table's rows, each as often; and each entry that may be put keeps it so.
+/// The files that a lawful log leaves have the table's rows, each as often; and each entry that suits those before it
+/// keeps it so, of whatever log.
 pub fn live_files_have_the_rows()
-    ensures all { (entries : List Entry) → IsLawful entries → SameCounts (file_rows (live entries)) (rows entries) }
-    ensures kept { (entries : List Entry) (entry : Entry) → IsLawful (entries ++ entry ∷ []) → SameCounts (file_rows (live entries)) (rows entries)
-        → SameCounts (file_rows (live (entries ++ entry ∷ []))) (rows (entries ++ entry ∷ [])) }
+    ensures all { (entries : List Entry) → IsLawful entries → SameCounts (rows_of_files (live entries)) (rows entries) }
+    ensures kept { (entries : List Entry) (entry : Entry) → Suits entries entry → SameCounts (rows_of_files (live entries)) (rows entries)
+        → SameCounts (rows_of_files (live (entries ++ entry ∷ []))) (rows (entries ++ entry ∷ [])) }
 {}
 
 /// No two files that a lawful log leaves have one path, and they are those that the newest action of each path leaves.

@@ -4,7 +4,7 @@ use Rattle.std.specs.List.{AllByRecursion, flat_map}
 use Rattle.store_core.specs.Objects.{Objects}
 use Rattle.table_store.specs.Schema.{Schema}
 use Rattle.table_store.specs.Holds.{GivenStands, FileStands, FilesStand, Lacks, IsFree}
-use Rattle.table_model.specs.Table.{Path, Batch, file_of, Entry, creation, group, close, batches_of, lacks}
+use Rattle.table_model.specs.Table.{FileName, Batch, batch_file, Entry, creation, group, close, batches_of, lacks}
 
 -- ---- what is lacked
 
@@ -17,7 +17,7 @@ pub all_lack : (objects : Objects) (entries : List Entry) → AllByRecursion (La
 all_lack objects [] = tt
 all_lack objects (entry ∷ entries) = (lacks_none objects entry, all_lack objects entries)
 
-none_lacked : (entries : List Entry) (path : Path) → Contains (flat_map lacks entries) path → ⊥
+none_lacked : (entries : List Entry) (path : FileName) → Contains (flat_map lacks entries) path → ⊥
 none_lacked [] path among = omega (arith, among.1)
 none_lacked (creation ∷ entries) path among = none_lacked entries path among
 none_lacked (group bs ∷ entries) path among = none_lacked entries path among
@@ -29,11 +29,11 @@ all_free entries name path among is = none_lacked entries path among
 -- ---- the files of batches
 
 module _ (objects : Objects) (schema : Schema) where
-  pub batches_given : (bs : List Batch) → AllByRecursion (FileStands objects schema) bs → AllByRecursion (GivenStands objects schema) (map file_of bs)
+  pub batches_given : (bs : List Batch) → AllByRecursion (FileStands objects schema) bs → AllByRecursion (GivenStands objects schema) (map batch_file bs)
   batches_given [] files = tt
   batches_given (b ∷ bs) files = (files.0, batches_given bs files.1)
 
-  pub given_batches : (bs : List Batch) → AllByRecursion (GivenStands objects schema) (map file_of bs) → AllByRecursion (FileStands objects schema) bs
+  pub given_batches : (bs : List Batch) → AllByRecursion (GivenStands objects schema) (map batch_file bs) → AllByRecursion (FileStands objects schema) bs
   given_batches [] files = tt
   given_batches (b ∷ bs) files = (files.0, given_batches bs files.1)
 

@@ -10,7 +10,7 @@ use Rattle.delta_actions.specs.Names.{data_file_name}
 use Rattle.table_store.specs.Schema.{Schema, path_name}
 use Rattle.table_store.specs.Commits.{IsCommitOf}
 use Rattle.table_store.specs.Holds.{EndsAt, Stands, FilesStand, IsFree, HoldsFrom}
-use Rattle.table_model.specs.Table.{Path, Entry, lacks}
+use Rattle.table_model.specs.Table.{FileName, Entry, lacks}
 use Rattle.table_store.proofs.GivenFiles.{all_free}
 use Rattle.table_store.proofs.HoldingKept.{Stands-kept, FilesStand-kept}
 use Rattle.table_store.proofs.HoldingNames.{commit_name-suc, commit_name-data_file_name}
@@ -23,7 +23,7 @@ Stands-put : (objects : Objects) (name bytes other : List ℕ) (P : List ℕ →
 Stands-put objects name bytes = Stands-kept objects (with_object objects name bytes) (HasObjectsOf-put objects name bytes)
 
 -- a put under a name that nothing is lacked under leaves what is lacked
-lacked-put : (objects : Objects) (name bytes : List ℕ) (paths : List Path) → ((path : Path) → Contains paths path → path_name path ≡ name → ⊥) → AllByRecursion (λ path. object_at objects (path_name path) ≡ None) paths
+lacked-put : (objects : Objects) (name bytes : List ℕ) (paths : List FileName) → ((path : FileName) → Contains paths path → path_name path ≡ name → ⊥) → AllByRecursion (λ path. object_at objects (path_name path) ≡ None) paths
     → AllByRecursion (λ path. object_at (with_object objects name bytes) (path_name path) ≡ None) paths
 lacked-put objects name bytes [] free lacking = tt
 lacked-put objects name bytes (path ∷ paths) free lacking = (
@@ -37,7 +37,7 @@ FilesStand-put objects name bytes schema entry free files =
 
 pub free_first : (entry : Entry) (entries : List Entry) (name : List ℕ) → IsFree (entry ∷ entries) name → IsFree (entry ∷ []) name
 free_first entry entries name free path among =
-    free path (Contains-append_left (lacks entry) (flat_map lacks entries) path (subst (λ (paths : List Path). Contains paths path) (append-nil (lacks entry)) among))
+    free path (Contains-append_left (lacks entry) (flat_map lacks entries) path (subst (λ (paths : List FileName). Contains paths path) (append-nil (lacks entry)) among))
 
 pub free_rest : (entry : Entry) (entries : List Entry) (name : List ℕ) → IsFree (entry ∷ entries) name → IsFree entries name
 free_rest entry entries name free path among = free path (Contains-append_right (lacks entry) (flat_map lacks entries) path among)

@@ -16,8 +16,8 @@ use Rattle.table_model.specs.Lawful as kinds
 use Rattle.table_model.specs.Lawful.{Begins, Suits, Rises, AreDifferent, IsLawful}
 use Rattle.table_store.specs.Groups.{numbers}
 use Rattle.table_store.specs.Logs.{LogFrom}
-use Rattle.table_store.specs.LawfulLogs.{IsLater, BeginsLog, numbers_of, HasLawfulLog}
-use Rattle.table_model.specs.Table.{Batch, Told, told_of, Entry, creation, group, close, batches_of, batches, numbers_by}
+use Rattle.table_store.specs.LawfulLogs.{IsLaterCommit, BeginsLog, numbers_of, HasLawfulLog}
+use Rattle.table_model.specs.Table.{Batch, ToldNumber, told_of, Entry, creation, group, close, batches_of, batches, numbers_by}
 use Rattle.table_model.proofs.Callers.{Rises-tail, below_later, each_suits, told_by-batches}
 use Rattle.table_store.proofs.HoldingEnds.{none_at_end, HoldsFrom-first, LogFrom-first}
 use Rattle.table_store.proofs.HoldingLogs.{HoldsFrom-log, numbers-without_commit_info, numbers_of_entry}
@@ -73,7 +73,7 @@ different-from_rises (n ∷ ns) rises = (twice, different-from_rises ns (λ appl
 -- and those that are told of it are, too
 numbers_by-named : (application : List ℕ) (entries : List Entry) → numbers_by application entries ≡ map (λ b. b.number) (filter (λ b. bytes_eq b.application application) (batches entries))
 numbers_by-named application entries =
-    ap (map (λ (t : Told). t.number)) (told_by-batches application entries) ∙ map-map (λ (t : Told). t.number) told_of (filter (λ (b : Batch). bytes_eq b.application application) (batches entries))
+    ap (map (λ (t : ToldNumber). t.number)) (told_by-batches application entries) ∙ map-map (λ (t : ToldNumber). t.number) told_of (filter (λ (b : Batch). bytes_eq b.application application) (batches entries))
 
 module _ (objects : Objects) (schema : Schema) where
   -- commit by commit the actions are those of the entries, and the files of each entry stand
@@ -116,7 +116,7 @@ module _ (objects : Objects) (schema : Schema) where
       ((λ none. let no : map named (b ∷ bs) ≡ [] = sym is ∙ none in absurd cc), subst AreDifferent (sym applications) grouped.1)
 
   -- the commit of an entry that is no creation is a group, or a close
-  later_entry : (entry : Entry) (beside : List actions.Action) → kinds.IsLater entry → Suits [] entry → StandFor schema entry beside → IsLater beside
+  later_entry : (entry : Entry) (beside : List actions.Action) → kinds.IsLater entry → Suits [] entry → StandFor schema entry beside → IsLaterCommit beside
   later_entry creation beside later grouped stand = absurd later
   later_entry (group bs) beside later grouped stand =
       let numbered = group_numbered bs (numbers beside) stand.numbered grouped in
@@ -125,7 +125,7 @@ module _ (objects : Objects) (schema : Schema) where
 
   -- where each entry is a later one, each commit is a group or a close
   all_later : (entries : List Entry) (log : List (List actions.Action)) → AllByRecursion kinds.IsLater entries → AllByRecursion (Suits []) entries → AreMadeFor entries log
-      → AllByRecursion (λ made. IsLater (without_commit_info made)) log
+      → AllByRecursion (λ made. IsLaterCommit (without_commit_info made)) log
   all_later [] [] later grouped p = tt
   all_later [] (made ∷ log) later grouped p = absurd p
   all_later (entry ∷ entries) [] later grouped p = absurd p

@@ -9,7 +9,7 @@ use Rattle.table_store.specs.Commits.{without_commit_info, IsClose, StandFor}
 use Rattle.table_store.specs.Groups.{numbers}
 use Rattle.table_store.specs.Holds.{FileStands, FilesStand, HoldsFrom, IsLawfulStore}
 use Rattle.table_store.specs.Logs.{LogFrom, AreBatchesOf}
-use Rattle.table_store.specs.LawfulLogs.{IsGroupCommit, IsLater, BeginsLog, IsLawfulLog, HasLawfulLog}
+use Rattle.table_store.specs.LawfulLogs.{IsGroupCommit, IsLaterCommit, BeginsLog, IsLawfulLog, HasLawfulLog}
 use Rattle.table_model.specs.Lawful as kinds
 use Rattle.table_model.specs.Lawful.{Begins, AreDifferent, Suits, Rises}
 use Rattle.table_model.proofs.Callers.{numbers_by-append, suits_each}
@@ -77,7 +77,7 @@ module _ (objects : Objects) (schema : Schema) where
         later = tt;
       }
 
-  later_entry : (made : List actions.Action) (bs : List Batch) → IsLater (without_commit_info made) → AreBatchesOf objects schema (numbers made) bs → LaterEntry made
+  later_entry : (made : List actions.Action) (bs : List Batch) → IsLaterCommit (without_commit_info made) → AreBatchesOf objects schema (numbers made) bs → LaterEntry made
   later_entry made bs (inl is) told = group_for made bs is told
   later_entry made bs (inr is) told = record { entry = close is.0; stand = is.1; files = files_stand objects schema (close is.0) tt; suits = tt; later = tt }
 
@@ -90,7 +90,7 @@ module _ (objects : Objects) (schema : Schema) where
     suits : AllByRecursion (Suits []) entries
     made : AreMadeFor objects schema entries log
 
-  later_entries : (log : List (List actions.Action)) (bs : List Batch) → AllByRecursion (λ made. IsLater (without_commit_info made)) log → AreBatchesOf objects schema (flat_map numbers log) bs
+  later_entries : (log : List (List actions.Action)) (bs : List Batch) → AllByRecursion (λ made. IsLaterCommit (without_commit_info made)) log → AreBatchesOf objects schema (flat_map numbers log) bs
       → Entries (AllByRecursion kinds.IsLater) log
   later_entries [] bs later told = record { entries = []; begins = tt; suits = tt; made = tt }
   later_entries (made ∷ log) bs later told =

@@ -5,7 +5,7 @@ use Rattle.schema_tree.specs.Limits.{IsWithinLimits}
 use Rattle.schema_tree.specs.Tree.{Tree}
 use Rattle.parquet_file.specs.File.{IsFile}
 use Rattle.row_core.specs.Rows.{Row}
-use Rattle.table_model.specs.Table.{Path, of_batch, named}
+use Rattle.table_model.specs.Table.{FileName, of_batch, named}
 
 -- a schema: the struct of the table's columns
 abbrev pub Schema : Type 0
@@ -17,6 +17,6 @@ pub record IsFileOf (schema : Schema) (bytes : List ℕ) (rows : List Row) : Typ
   pub file : IsFile bytes schema rows
 
 -- the name under which a file lies
-abbrev pub path_name : Path → List ℕ
+abbrev pub path_name : FileName → List ℕ
 path_name (of_batch application number) = data_file_name application number
 path_name (named key) = key

@@ -25,7 +25,7 @@ use Rattle.lake_script.specs.declared.reply.LineReply.TheVariants as replies
 use Rattle.script_lines.specs.Lines as lines
 use Rattle.stream_world.specs.Worlds.{World, anew}
 use Rattle.table_jobs.specs.Sessions.{end_view}
-use Rattle.stream_world.specs.Standing.{HandsBack, HasBegunAs, HasHappened, LandsAs, SlotStands, TellsAs, WorldStands, landing_told}
+use Rattle.stream_world.specs.Standing.{HandsBackFront, HasBegunAs, HasHappened, LandsAs, SlotStands, TellsAs, WorldStands, landing_told}
 use Rattle.table_jobs.specs.declared.job_session.JobEnd as code_end
 use Rattle.stream_world.specs.declared.world.World as code_world
 use Rattle.script_lines.specs.declared.kind.Kind.{Kind}
@@ -354,7 +354,7 @@ module _ {S : Type 0} (stored : S → Objects) (old : code.Scene S) (s : Scene) 
 
     -- It ran to its end, by the fault that the scene has; and its reply, by which the next job knows more of the log, leaves the world as it stands.
     pub ran_job : (new : code.Scene S) (led : code_world.World S) (outcome : code_end.JobEnd) (reply : List ℕ) (short : Bool) → CameThrough stored old.fault begun.later (Some outcome) new.fault led → IsReplyOf (end_view outcome) reply
-        → IsShortBy (end_view outcome) reply short → ((w : World) → WorldStands stored led w → HandsBack (stored led.store.store) (Some outcome) → WorldStands stored new.world w)
+        → IsShortBy (end_view outcome) reply short → ((w : World) → WorldStands stored led w → HandsBackFront (stored led.store.store) (Some outcome) → WorldStands stored new.world w)
         → new.parts ≡ old.parts → new.next ≡ old.next → new.tries ≡ old.tries → new.use_checkpoints ≡ old.use_checkpoints → RanJob stored s job reply short new
     ran_job new led outcome reply short came is falls behind parts next tries uses = record {
       mid = begun.later;

@@ -6,7 +6,8 @@ use Rattle.store_core.specs.Objects.{Objects}
 use Rattle.session_core.specs.Talks.{Asked, Talk, Told, get_object, list_names, put_commit, put_file}
 use Rattle.table_jobs.specs.Jobs.{Job, Outcome, CanBegin}
 use Rattle.stream_world.specs.Events.{Event, FitsWorld, HasActor, Happens, ComesToTalk, act, acts, answer, begin, begins, begins_now, dies, ends, goes_on, lands, lose_answer, loses, nothing_happens, takes}
-use Rattle.stream_world.specs.Worlds.{Actor, Hand, How, World, acted, asking, ended, fresh, late, lost, once, short, told_by_call, told_how, twice, waiting, with_actor}
+use Rattle.session_core.specs.CallEffects.{told_by_call}
+use Rattle.stream_world.specs.Worlds.{Actor, Hand, How, World, acted, asking, ended, fresh, late, lost, once, short, told_how, twice, waiting, with_actor}
 use Rattle.stream_world.specs.EventViews.{IsMetAs, IsMetIn}
 use Rattle.stream_world.specs.Standing.{HasHappened, TellsAs, WorldStands, taking}
 use Rattle.table_jobs.specs.declared.job_session.JobEnd as code_end

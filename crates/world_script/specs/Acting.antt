@@ -8,7 +8,7 @@ use Rattle.stream_world.specs.Events.{Event, Happens, act, answer}
 use Rattle.stream_world.specs.Worlds as worlds
 use Rattle.stream_world.specs.Worlds.{Hand, How, World, asking, ended, fresh, waiting}
 use Rattle.stream_world.specs.EventViews.{IsMetIn}
-use Rattle.stream_world.specs.Standing.{HandsBack, WorldStands, TellsAs, taking}
+use Rattle.stream_world.specs.Standing.{HandsBackFront, WorldStands, TellsAs, taking}
 use Rattle.table_jobs.specs.declared.job_session.JobEnd as code_end
 use Rattle.stream_world.specs.declared.world.World as code_world
 use Rattle.store_core.specs.Objects.{Objects}
@@ -103,5 +103,5 @@ pub record CameBy {S : Type 0} (stored : S → Objects) (does : List Event → O
   pub later : World
   pub done : does events told later
   pub tells : TellsAs outcome told
-  pub hands : HandsBack (stored world.store.store) outcome
+  pub hands : HandsBackFront (stored world.store.store) outcome
   pub stands : WorldStands stored world later

@@ -10,7 +10,7 @@ use Rattle.store_core.specs.Objects.{Objects}
 use Rattle.stream_world.specs.Events.{Event, Happens, begin}
 use Rattle.stream_world.specs.Worlds.{World}
 use Rattle.table_jobs.specs.Sessions.{end_view}
-use Rattle.stream_world.specs.Standing.{HandsBack, TellsAs, WorldStands}
+use Rattle.stream_world.specs.Standing.{HandsBackFront, TellsAs, WorldStands}
 use Rattle.table_jobs.specs.declared.job_session.JobEnd as code_end
 use Rattle.stream_world.specs.declared.world.World as code_world
 use Rattle.world_script.specs.Acting.{LeadsThrough}
@@ -94,7 +94,7 @@ pub record CameThrough {S : Type 0} (stored : S → Objects) (fault : Option Kin
   pub later : World
   pub leads : LeadsThrough 0 fault w events told left later
   pub tells : TellsAs outcome (Some told)
-  pub hands : HandsBack (stored world.store.store) outcome
+  pub hands : HandsBackFront (stored world.store.store) outcome
   pub stands : WorldStands stored world later
 
 -- a job ran to its end and was told this; or there was no memory to begin it, and nothing happened

@@ -33,7 +33,7 @@ pub record IsWorldRun (use_checkpoints : Bool) (text : List ℕ) (outcome : Outc
   pub sound : IsFirstStore before → ArePutHere (lines_of text) → StaysSo (first_scene before use_checkpoints) text after
 
 -- What any text comes to, over a store that loses no call.
-pub record IsRunOf {W S : Type 0} (contents : W → Option (List ℕ)) (objects : S → Objects) (use_checkpoints : Bool) (text : List ℕ) (outcome : Outcome) (old new : Output W) (before after : S) : Type 0 where
+pub record IsRunOfText {W S : Type 0} (contents : W → Option (List ℕ)) (objects : S → Objects) (use_checkpoints : Bool) (text : List ℕ) (outcome : Outcome) (old new : Output W) (before after : S) : Type 0 where
   -- Without actors: what is written is what is told for it, to the byte.
   pub plain : needs_world text ≡ false → IsTextRun use_checkpoints text outcome (held contents old) (contents new.writer) (objects before) (objects after)
   -- With actors: each line does what it asks for in a world, and is told that; over nothing, and without another tool's

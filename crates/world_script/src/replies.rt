@@ -2,7 +2,7 @@
 ghost use Rattle.std.specs.Prelude.{◌≡◌, Some};
 ghost use Rattle.lake_script.specs.Endings.{IsReplyOf, IsShortBy};
 ghost use Rattle.lake_script.specs.ReplyView.{is_short_reply, reply_text};
-ghost use Rattle.stream_world.specs.Standing.{HandsBack, WorldStands};
+ghost use Rattle.stream_world.specs.Standing.{HandsBackFront, WorldStands};
 ghost use Rattle.stream_world.specs.Worlds as worlds;
 ghost use Rattle.table_jobs.specs.Sessions.{end_view};
 ghost use Rattle.world_script.specs.Doing.{IsReplyAs, IsShortAs};
@@ -31,7 +31,7 @@ pub(crate) fn reply_in(alloc: Global, outcome: Option<JobEnd>) -> LineReply
 pub(crate) fn reply_to<S: Store>(alloc: Global, world: &mut World<S>, end: JobEnd) -> LineReply
     ensures told { IsReplyOf (end_view end) (reply_text result) }
     ensures short { IsShortBy (end_view end) (reply_text result) (is_short_reply result) }
-    ensures stands { (w : worlds.World) → WorldStands S.objects world.old w → HandsBack (S.objects world.old.store.store) (Some end) → WorldStands S.objects world.new w }
+    ensures stands { (w : worlds.World) → WorldStands S.objects world.old w → HandsBackFront (S.objects world.old.store.store) (Some end) → WorldStands S.objects world.new w }
     ensures store { world.new.store ≡ world.old.store }
 {
     let mut cache = LogCache::new(alloc);

@@ -1,5 +1,5 @@
 //! Any script: read to its end, and then answered in a world where it has actors, and else line by line.
-ghost use Rattle.std.specs.Prelude.{◌≡◌, ◌≢◌, ◌≤◌, ◌^◌, None, true, false, length, IfSome};
+ghost use Rattle.std.specs.Prelude.{◌≡◌, ◌≢◌, ◌≤◌, ◌^◌, None, true, length, IfSome};
 ghost use Rattle.delta_actions.specs.Commit.{lines_of};
 ghost use Rattle.lake_script.specs.Runs.{TellsWhole};
 ghost use Rattle.lake_script.specs.Streams.{held, unread};
@@ -9,7 +9,7 @@ ghost use Rattle.stream_world.specs.Worlds.{IsFirstStore};
 ghost use Rattle.world_script.specs.ByLines.{IsTextSo};
 ghost use Rattle.world_script.specs.KeptLines.{IsBadKept, IsKeptOf};
 ghost use Rattle.world_script.specs.Words.{needs_world};
-ghost use Rattle.world_script.specs.WorldRuns.{EndsInput, IsRunOf};
+ghost use Rattle.world_script.specs.WorldRuns.{EndsInput, IsRunOfText};
 
 use crate::engine::{Ran, play};
 use crate::words::needs_world;
@@ -30,7 +30,7 @@ pub fn run_any<S: Store, W: Write>(
 ) -> Ran<S>
     requires { length text.now ≤ 2 ^ 30 }
     // What is told and left: of a text without actors as `run_text` has it, of one with actors as `play` does.
-    ensures runs { S.is_reliable store → IsRunOf W.contents S.objects use_checkpoints text.now result.outcome output.old output.new store result.store }
+    ensures runs { S.is_reliable store → IsRunOfText W.contents S.objects use_checkpoints text.now result.outcome output.old output.new store result.store }
     ensures headline { needs_world text.now ≡ true → S.is_reliable store → IsFirstStore (S.objects store) → ArePutHere (lines_of text.now) → Finishes result.outcome.end (λ _. TellsWhole (held W.contents output.old) (W.contents output.new.writer)
         (λ written. IsTextSo use_checkpoints text.now written (S.objects result.store))) }
     // Of any text.
@@ -106,7 +106,7 @@ pub fn run<R: Read, W: Write, S: Store>(
 ) -> Ran<S>
     // Once its input was read, and where the reader tells its bytes, all of what `run_any` says of the text.
     ensures runs { result.outcome.end ≢ End.NotRead → S.is_reliable store → IfSome (unread R.remaining input.old) (λ text.
-        IsRunOf W.contents S.objects use_checkpoints text result.outcome output.old output.new store result.store) }
+        IsRunOfText W.contents S.objects use_checkpoints text result.outcome output.old output.new store result.store) }
     // The sentence, of a script with actors over nothing.
     ensures headline { S.is_reliable store → IsFirstStore (S.objects store) → Finishes result.outcome.end (λ _. IfSome (unread R.remaining input.old) (λ text. needs_world text ≡ true → ArePutHere (lines_of text)
         → TellsWhole (held W.contents output.old) (W.contents output.new.writer) (λ written. IsTextSo use_checkpoints text written (S.objects result.store)))) }

@@ -1,4 +1,4 @@
-use Rattle.std.proofs.Common.{◌≡◌, ℕ, List, map, subst}
+use Rattle.std.proofs.Common.{◌≡◌, ℕ, map, subst}
 use Rattle.table_model.specs.Reads.{IsPart}
 use Rattle.table_model.specs.Resumed.{beginning}
 use Rattle.table_model.proofs.Callers.{beginning_is_offset}

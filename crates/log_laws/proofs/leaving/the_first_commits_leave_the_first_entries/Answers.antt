@@ -2,6 +2,7 @@ use Rattle.std.proofs.Common.{◌∷◌}
 use Rattle.log_laws.proofs.Fronts.{front_made, front_stands}
 use Rattle.log_laws.proofs.Leaves.{read_by, written_by}
 use Rattle.log_laws.proofs.LogCloses.{log_closed, log_open}
+use Rattle.log_laws.proofs.LogFiles.{log_files}
 use Rattle.log_laws.proofs.LogNumbers.{log_last}
 use Rattle.log_laws.proofs.leaving.the_first_commits_leave_the_first_entries.Goals as goal
 
@@ -18,6 +19,9 @@ returns-clause-closed c = λ objects schema entries commits application text sta
 pub returns-clause-still_open : goal.returns-clause-still_open
 returns-clause-still_open c = λ objects schema entries commits application stand read opened.
     log_open objects schema application entries commits (front_made objects schema entries commits stand read) opened
+
+pub returns-clause-files : goal.returns-clause-files
+returns-clause-files c = λ objects schema entries commits name stand read. log_files objects schema name entries commits (front_made objects schema entries commits stand read)
 
 pub returns-clause-read : goal.returns-clause-read
 returns-clause-read c = λ objects schema entries first commits lawful stand read. read_by objects schema entries first commits lawful.begins (front_made objects schema entries (first ∷ commits) stand read)

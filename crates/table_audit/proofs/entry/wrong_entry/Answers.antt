@@ -4,7 +4,7 @@ use Rattle.delta_actions.specs.Action as kinds
 use Rattle.delta_actions.specs.Action.{views}
 use Rattle.delta_replay.specs.Snapshots.{IsSnapshotOf}
 use Rattle.schema_tree.specs.Schema.{tree_of}
-use Rattle.table_audit.specs.Entries.{Follows, GroupFollows}
+use Rattle.table_audit.specs.Entries.{EntryFollows, GroupFollows}
 use Rattle.table_audit.specs.Reasons.{IsNoClose, IsNoNext}
 use Rattle.table_audit.specs.declared.reason.Reason.{Reason}
 use Rattle.table_audit.proofs.GroupParts.{follows_close, follows_group, follows_none, none_weaker, some_each, some_weaker}
@@ -21,7 +21,7 @@ returns-clause-follows g c = λ steady.
     let schema = tree_of c.args.schema.now in
     let beside = views c.args.beside.now in
     let P : Type 0 = (log : List (List kinds.Action)) → IsSnapshotOf log c.args.snapshot.now → GroupFollows objects schema log beside in
-    let Q : Type 0 = (log : List (List kinds.Action)) → IsSnapshotOf log c.args.snapshot.now → Follows objects schema log beside in
+    let Q : Type 0 = (log : List (List kinds.Action)) → IsSnapshotOf log c.args.snapshot.now → EntryFollows objects schema log beside in
     IfOk-weaker c.wrong_group.result _ _ (λ o h. none_weaker P Q (λ may log of. follows_group objects schema log beside (may log of)) o h) (c.wrong_group.ensures.follows steady)
 
 pub returns-clause-breaks : goal.returns-clause-breaks
@@ -31,7 +31,7 @@ returns-clause-breaks g c = λ steady.
     let beside = views c.args.beside.now in
     let no_close = rw c.in_default.is at c.in_ok-_application.ensures.only in
     let P : Type 0 = (log : List (List kinds.Action)) → IsSnapshotOf log c.args.snapshot.now → GroupFollows objects schema log beside → ⊥ in
-    let Q : Type 0 = (log : List (List kinds.Action)) → IsSnapshotOf log c.args.snapshot.now → Follows objects schema log beside → ⊥ in
+    let Q : Type 0 = (log : List (List kinds.Action)) → IsSnapshotOf log c.args.snapshot.now → EntryFollows objects schema log beside → ⊥ in
     IfOk-weaker c.wrong_group.result _ _ (λ o h. some_weaker P Q (λ none log of. follows_none objects schema log beside no_close (none log of)) o h) (c.wrong_group.ensures.breaks steady)
 
 pub returns-clause-why : goal.returns-clause-why

@@ -1,4 +1,3 @@
-use Rattle.std.proofs.Common.{[], refl}
 use Rattle.table_model.proofs.Live.{live_is_rows, live_kept}
 use Rattle.table_model.proofs.laws.live_files_have_the_rows.Goals as goal
 
@@ -6,4 +5,4 @@ pub returns-clause-all : goal.returns-clause-all
 returns-clause-all c = live_is_rows
 
 pub returns-clause-kept : goal.returns-clause-kept
-returns-clause-kept c = λ entries entry lawful before. live_kept entries entry (lawful.suits entries [] entry refl) before
+returns-clause-kept c = live_kept
