@@ -1,0 +1,17 @@
+//! Why a store isn't the opening one of a book.
+
+use thiserror::Error;
+
+/// Why a store isn't the opening one of a book.
+#[derive(Debug, Drop, Error)]
+pub enum OpeningFault {
+    /// Memory ran out.
+    #[error("U1 Memory")]
+    Memory,
+    /// The store isn't sound, and this is the least version whose commit, file or checkpoint breaks it.
+    #[error("U2 Unlawful {version}")]
+    Unlawful { version: u64 },
+    /// A data file is too large to be read as one of the table's, so that it isn't known whether the store is sound.
+    #[error("U2 Unlawful: file {name}: P9 TooLarge")]
+    TooLarge { name: String },
+}
