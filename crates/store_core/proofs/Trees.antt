@@ -1,5 +1,6 @@
 -- A tree from names to bytes, and its objects.
-use Rattle.std.proofs.Common.{◌≡◌, ℕ, true, false, cond, List, [], ◌∷◌, Option, None, Some, Vec, String, refl, sym, ◌∙◌, ap, subst, map, Result, Ok, Err}
+use Rattle.std.specs.Prelude.{bytes_eq}
+use Rattle.std.proofs.Common.{◌≡◌, ℕ, Bool, Bor, true, false, cond, List, [], ◌∷◌, Option, None, Some, Vec, String, refl, sym, ◌∙◌, ap, subst, map, Result, Ok, Err}
 use Rattle.std.specs.Global.{Global}
 use Rattle.std.specs.declared.cmp.Ordering.TheVariants.{Less, Equal, Greater}
 use Rattle.std.specs.Ordering.{is_eq, match_ordering, nat_cmp}
@@ -7,7 +8,8 @@ use Rattle.std.specs.Option.{option_map, is_some}
 use Rattle.std.specs.Cmp.Lexicographic.{slice_cmp}
 use Rattle.std.specs.List.{AllByRecursion}
 use Rattle.std.specs.List.Sorted.{IsStrictlySortedBy}
-use Rattle.std.specs.Map.{lookup, keys_of}
+use Rattle.std.specs.Map.{lookup, keys_of, values_of}
+use Rattle.std.specs.Map.Iter.{deref}
 use Rattle.std.specs.BTreeMap.{IsOrdered, insert_entry, is_at, get_by_text}
 use Rattle.std.specs.String.{string_bytes, string_cmp}
 use Rattle.std.specs.FinMap as finite
@@ -16,7 +18,8 @@ use Rattle.std.specs.Prelude.{unwrap_or, IfOk, IfSome, OnOk}
 use Rattle.store_core.specs.Calls.{HasLanded, StandsAfter, put_told}
 use Rattle.store_core.specs.declared.store.Put.{Put}
 use Rattle.store_core.specs.declared.fault.StoreFault.{StoreFault}
-use Rattle.store_core.specs.Objects.{Objects, IsInOrder, name_order, object_at, names_of, with_object}
+use Rattle.outcomes.specs.Bytes.{IsBytes}
+use Rattle.store_core.specs.Objects.{AreBytes, Objects, IsInOrder, name_order, object_at, names_of, with_object}
 use Rattle.store_core.specs.ObjectLaws.{sorted_from_in_order, T_from_true, with_object_absent, object_at-with_object_same}
 use Rattle.store_core.specs.Listed.{listed}
 use Rattle.store_core.specs.Memory.{AreNamesOf, Tree, Stored, stored_object, objects_of, stored_objects, stored_of}
@@ -77,6 +80,20 @@ objects_inserted (e ∷ es) name bytes =
 pub names_of_tree : (es : Entries) → names_of (map stored_object es) ≡ map string_bytes (keys_of es)
 names_of_tree [] = refl
 names_of_tree (e ∷ es) = ap (λ rest. string_bytes e.0 ∷ rest) (names_of_tree es)
+
+-- where the bytes of each entry are bytes, so is what stands
+pub bytes_of_tree : (es : Entries) → AllByRecursion (λ bytes. IsBytes bytes.items) (values_of es) → AreBytes (map stored_object es)
+bytes_of_tree [] h name bytes is = absurd cc
+bytes_of_tree (e ∷ es) h name bytes is = by_name (bytes_eq name (string_bytes e.0)) (bytes_of_tree es h.1 name bytes) is
+  where
+    by_name : (b : Bool) → (object_at (map stored_object es) name ≡ Some bytes → IsBytes bytes) → cond b (Some e.1.items) (object_at (map stored_object es) name) ≡ Some bytes → IsBytes bytes
+    by_name true later found = let one : e.1.items ≡ bytes = cc in subst IsBytes one h.0
+    by_name false later found = later found
+
+-- so of borrowed bytes
+pub bytes_of_borrowed : (lent : List (Bor (Vec ℕ Global))) → AllByRecursion (λ bytes. IsBytes bytes.now.items) lent → AllByRecursion (λ bytes. IsBytes bytes.items) (map deref lent)
+bytes_of_borrowed [] h = tt
+bytes_of_borrowed (bytes ∷ lent) h = (h.0, bytes_of_borrowed lent h.1)
 
 -- the tree has a name just where the name stands
 pub stands_in_tree : (tree : Tree) (name : List ℕ) → is_some (object_at (objects_of tree) name) ≡ is_some (get_by_text tree name)

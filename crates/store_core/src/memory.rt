@@ -4,8 +4,9 @@ ghost use Rattle.std.specs.Option.{option_map};
 ghost use Rattle.std.specs.BTreeMap.{IsOrdered};
 ghost use Rattle.std.specs.BTreeSet.{insert_key};
 ghost use Rattle.std.specs.String.{string_bytes, string_cmp};
+ghost use Rattle.outcomes.specs.Bytes.{IsBytes};
 ghost use Rattle.store_core.specs.Listed.{listed};
-ghost use Rattle.store_core.specs.Objects.{name_order, object_at, names_of};
+ghost use Rattle.store_core.specs.Objects.{AreBytes, name_order, object_at, names_of};
 ghost use Rattle.store_core.specs.Calls.{HasLanded, put_told};
 ghost use Rattle.store_core.specs.Memory.{AreNamesOf, objects_of, stored_objects};
 
@@ -51,6 +52,14 @@ impl MemoryStore {
             names: None,
         }
     }
+
+    /// What is so of every store in memory, for contracts: its objects are of bytes. It looks at each object, and reads
+    /// none, in time linear in their number.
+    pub fn known(&self)
+        ensures { AreBytes (stored_objects self.now) }
+    {
+        are_bytes(&self.objects);
+    }
 }
 
 impl Store for MemoryStore {
@@ -90,6 +99,20 @@ impl Store for MemoryStore {
 
     ghost in_order = { IsInOrder-stored };
 }
+
+/// Each object is of bytes. Each is looked at, and none is read.
+fn are_bytes(objects: &BTreeMap<String, Vec<u8>>)
+    ensures { AreBytes (objects_of objects.now) }
+{
+    for bytes in objects.values() {
+        is_of_bytes(bytes);
+    }
+}
+
+/// Bytes are numbers of eight bits.
+fn is_of_bytes(bytes: &[u8])
+    ensures { IsBytes bytes.now }
+{}
 
 /// Copies of the names, in order.
 fn names_in(alloc: Global, objects: &BTreeMap<String, Vec<u8>>) -> Result<Vec<String>, StoreFault>
