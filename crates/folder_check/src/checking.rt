@@ -42,7 +42,8 @@ impl<F: Folder, P: Progress> FolderReader<F, P> {
         ensures steady { F.is_steady self.old.folder → F.is_steady self.new.folder }
         // Where a call of the folder is told as failed, one did.
         ensures counted { IfErr result (ComesOfACall (F.fault_count self.old.folder) (F.fault_count self.new.folder)) }
-        // A data file is told as too large only where it is, and in place of a verdict.
+        // A data file is told as too large only where it is, as one that a commit adds, below whose version all is
+        // sound; and in place of a verdict.
         ensures large { F.is_steady self.old.folder → IfErr result (CheckTellsLargeFile (F.objects self.old.folder)) }
         ensures beside { IfOk result (λ report. IfErr report.beside CheckTellsNoFile) }
     {
@@ -74,7 +75,7 @@ impl<F: Folder, P: Progress> FolderReader<F, P> {
                 _ => CheckFault::Folder(LoadFault::Memory),
             },
             AuditError::Memory => CheckFault::Folder(LoadFault::Memory),
-            AuditError::TooLarge { name } => CheckFault::TooLarge { name },
+            AuditError::TooLarge { name, .. } => CheckFault::TooLarge { name },
         }
     }
 }

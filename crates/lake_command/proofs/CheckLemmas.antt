@@ -6,7 +6,7 @@ use Rattle.table_folder.specs.declared.fault.LoadFault.{LoadFault}
 use Rattle.table_folder.specs.declared.fault.LoadFault.TheVariants.{NotLoaded, Memory}
 use Rattle.store_core.specs.Calls.{HasRisen}
 use Rattle.store_core.specs.Objects.{Objects}
-use Rattle.table_audit.specs.LargeFiles.{IsLargeFile}
+use Rattle.table_audit.specs.LargeFiles.{HasLargeFile}
 use Rattle.table_audit.specs.Verdicts.{IsVerdictOf}
 use Rattle.table_audit.specs.declared.verdict.Verdict.{Verdict}
 use Rattle.folder_check.specs.Beside.{AreBeside}
@@ -82,7 +82,7 @@ module _ {W E : Type 0} (contents : W → Option (List ℕ)) (contents_err : E �
 
   -- a data file that is told as too large leaves no verdict
   pub large_unjudged : (is_steady : Type 0) (objects : Objects) (name told : List ℕ) (faults_old faults_new : ℕ) (old new : Output W) (err_old err_new : ErrorOutput E) (exit : Exit)
-      → told ≡ name → (is_steady → IsLargeFile objects name) → IsTextTold contents contents_err (λ text. text ≡ too_large_text told) (IsMeaning (codes "P9")) 1 old new err_old err_new exit
+      → told ≡ name → (is_steady → HasLargeFile objects name) → IsTextTold contents contents_err (λ text. text ≡ too_large_text told) (IsMeaning (codes "P9")) 1 old new err_old err_new exit
       → IsUnjudged contents contents_err is_steady objects faults_old faults_new old new err_old err_new exit
   large_unjudged is_steady objects name told faults_old faults_new old new err_old err_new exit same large is =
       inl (text_weaker _ (IsOfTooLarge is_steady objects) (IsMeaning (codes "P9")) 1 old new err_old err_new exit (λ text is_text. (name, is_text ∙ ap too_large_text same, large)) is)

@@ -9,7 +9,7 @@ use Rattle.lake_script.specs.Streams.{held, write_failed, WritesFront}
 use Rattle.lake_script.specs.declared.outputs.Output.{Output}
 use Rattle.store_core.specs.Calls.{HasRisen}
 use Rattle.store_core.specs.Objects.{Objects}
-use Rattle.table_audit.specs.LargeFiles.{IsLargeFile}
+use Rattle.table_audit.specs.LargeFiles.{HasLargeFile}
 use Rattle.table_audit.specs.ReasonTexts.{reason_text}
 use Rattle.table_audit.specs.Verdicts.{IsVerdictOf}
 use Rattle.table_audit.specs.declared.verdict.Verdict.{Verdict}
@@ -39,9 +39,9 @@ IsOfVerdict verdict text = text ≡ verdict_text verdict
 abbrev pub too_large_text : (name : List ℕ) → List ℕ
 too_large_text name = with_newline (codes "refused P9 TooLarge " ++ name)
 
--- what may be told of one; where the folder is steady, one of this name is
+-- what may be told of one; where the folder is steady, one of this name is, in the commit of some version
 abbrev pub IsOfTooLarge : (is_steady : Type 0) → Objects → List ℕ → Type 0
-IsOfTooLarge is_steady objects text = (name : List ℕ) × (text ≡ too_large_text name) × (is_steady → IsLargeFile objects name)
+IsOfTooLarge is_steady objects text = (name : List ℕ) × (text ≡ too_large_text name) × (is_steady → HasLargeFile objects name)
 
 -- A text for which this holds is told, with a status.
 abbrev pub IsToldWithStatus : {W : Type 0} → (W → Option (List ℕ)) → (List ℕ → Type 0) → (status : ℕ) → (old new : Output W) → Exit → Type 0

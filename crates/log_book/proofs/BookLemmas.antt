@@ -1,6 +1,6 @@
 -- A call keeps what is so of every book, and each front of a book's history is one.
 use Rattle.std.proofs.Common.{◌≡◌, ◌∙◌, List, [], ◌∷◌, ◌++◌, refl, sym, ap, subst}
-use Rattle.store_core.specs.Objects.{Objects}
+use Rattle.store_core.specs.Objects.{AreBytes, Objects}
 use Rattle.session_core.specs.Talks.{Asked}
 use Rattle.log_laws.specs.Sound.{IsSoundStore}
 use Rattle.log_book.specs.declared.record.CallRecord.{CallRecord}
@@ -20,11 +20,22 @@ pub all_sound : KeepsSound → (objects : Objects) (history : History) → IsSou
 all_sound keeps objects [] sound might = sound
 all_sound keeps objects (call ∷ history) sound might = all_sound keeps (left_by_call objects call.asked) history (keeps objects call.asked sound might.0) might.2
 
+-- a book of what stands at first, of which no call was made
+pub first_book : (opening objects : Objects) (made : List CallRecord) → opening ≡ objects → made ≡ [] → IsSoundStore objects → AreBytes objects → IsBook (record { opening = opening; objects = objects; history = recorded_history made })
+first_book opening objects made same none sound bytes = rw (same, none) (record {
+  opened = sound;
+  bytes = bytes;
+  replays = record { told = tt; left = refl };
+  might = tt;
+  sound = sound;
+})
+
 -- a book with one more call
 pub book_on : KeepsSound → (opening objects : Objects) (history : History) (call : SeatCall) → IsBook (record { opening = opening; objects = objects; history = history }) → MayMake objects call.asked → PutsBytes call.asked
     → call.told ≡ told_by_call objects call.asked → IsBook (record { opening = opening; objects = left_by_call objects call.asked; history = history ++ call ∷ [] })
 book_on keeps opening objects history call book may of_bytes told = record {
   opened = book.opened;
+  bytes = book.bytes;
   replays = record {
     told = told-append opening history (call ∷ []) book.replays.told (subst (λ (now : Objects). AreToldSo now (call ∷ [])) (sym book.replays.left) (told, tt));
     left = left_by_all-append opening history (call ∷ []) ∙ ap (λ (now : Objects). left_by_call now call.asked) book.replays.left;
@@ -54,6 +65,7 @@ front_book keeps book front rest is split =
     let might : MightMakeAll book.opening front = might_front book.opening front rest (subst (MightMakeAll book.opening) split is.might) in
     record {
       opened = is.opened;
+      bytes = is.bytes;
       replays = record { told = (told_front book.opening front rest (subst (AreToldSo book.opening) split is.replays.told)).0; left = refl };
       might = might;
       sound = all_sound keeps book.opening front is.opened might;

@@ -10,6 +10,7 @@ use Rattle.session_core.specs.Talks.{Asked, get_object, list_names, put_commit, 
 use Rattle.session_core.specs.CallEffects.{left_by_call}
 use Rattle.log_book.specs.Histories.{History, left_by_all}
 use Rattle.log_book.specs.Making.{MightMakeAll, PutsBytes}
+use Rattle.log_book.specs.Book.{BookView, IsBook}
 
 -- behind a put of bytes
 put_of_bytes : (objects : Objects) (name put : List ℕ) → AreBytes objects → IsBytes put → AreBytes (with_object objects name put)
@@ -38,3 +39,7 @@ call_of_bytes objects (put_commit version bytes) are of_bytes = put_of_bytes obj
 pub all_of_bytes : (objects : Objects) (history : History) → AreBytes objects → MightMakeAll objects history → AreBytes (left_by_all objects history)
 all_of_bytes objects [] are might = are
 all_of_bytes objects (call ∷ history) are might = all_of_bytes (left_by_call objects call.asked) history (call_of_bytes objects call.asked are might.1) might.2
+
+-- what stands in a book is of bytes
+pub book_of_bytes : (book : BookView) → IsBook book → AreBytes book.objects
+book_of_bytes book is = subst AreBytes is.replays.left (all_of_bytes book.opening book.history is.bytes is.might)

@@ -31,14 +31,13 @@ pub fn what_stands_stays_along_a_history()
 {}
 
 /// Each front of a book's history replays to a sound store, of which the book's objects have all; with it the front is
-/// a book of its own. The call behind it was told what a store of one thread tells there. Where the opening store was of
-/// bytes, so is what each front leaves.
+/// a book of its own, and of bytes. The call behind it was told what a store of one thread tells there.
 pub fn each_front_is_a_book()
     ensures book { (book : BookView) (front rest : History) → IsBook book → book.history ≡ front ++ rest → IsBook (book_at book (left_by_all book.opening front) front) }
     ensures sound { (book : BookView) (front rest : History) → IsBook book → book.history ≡ front ++ rest → IsSoundStore (left_by_all book.opening front) }
     ensures grown { (book : BookView) (front rest : History) → IsBook book → book.history ≡ front ++ rest → HasObjectsOf (left_by_all book.opening front) book.objects }
     ensures told { (book : BookView) (front rest : History) (call : SeatCall) → IsBook book → book.history ≡ front ++ call ∷ rest → call.told ≡ told_by_call (left_by_all book.opening front) call.asked }
-    ensures bytes { (book : BookView) (front rest : History) → IsBook book → book.history ≡ front ++ rest → AreBytes book.opening → AreBytes (left_by_all book.opening front) }
+    ensures bytes { (book : BookView) (front rest : History) → IsBook book → book.history ≡ front ++ rest → AreBytes (left_by_all book.opening front) }
 {
     a_call_keeps_a_store_sound();
 }

@@ -3,11 +3,13 @@
 #![tactic(auto)]
 
 mod book;
+mod final_log;
 mod laws;
 mod opening_fault;
 mod record;
 
 pub use book::Book;
+pub use final_log::FinalLog;
 pub use laws::{
     a_call_keeps_a_store_sound, each_front_is_a_book, what_a_history_leaves,
     what_stands_stays_along_a_history,

@@ -11,7 +11,8 @@ pub enum OpeningFault {
     /// The store isn't sound, and this is the least version whose commit, file or checkpoint breaks it.
     #[error("U2 Unlawful {version}")]
     Unlawful { version: u64 },
-    /// A data file is too large to be read as one of the table's, so that it isn't known whether the store is sound.
-    #[error("U2 Unlawful: file {name}: P9 TooLarge")]
-    TooLarge { name: String },
+    /// The commit of this version adds a data file that is too large to be read as one of the table's, so that it isn't
+    /// known whether the store is sound. All before it is.
+    #[error("U2 Unlawful {version}")]
+    TooLarge { version: u64, name: String },
 }

@@ -6,7 +6,7 @@ use Rattle.std.proofs.lemmas.Slice.Eq.{bytes_eq-Decides}
 use Rattle.store_core.specs.Calls.{put_told}
 use Rattle.store_core.specs.Names.{commit_name, commit_version, greatest_version}
 use Rattle.store_core.specs.ObjectLaws.{listed_iff_stands, object_at-with_object_kept, object_at-with_object_same}
-use Rattle.store_core.specs.Objects.{HasObjectsOf, Objects, names_of, object_at, with_object}
+use Rattle.store_core.specs.Objects.{AreBytes, HasObjectsOf, Objects, names_of, object_at, with_object}
 use Rattle.store_core.proofs.Callers.{named}
 use Rattle.session_core.specs.Talks.{Asked, Told, get_object, list_names, put_commit, put_file, told_put}
 use Rattle.session_core.specs.CallEffects.{left_by_call, told_by_call}
@@ -16,9 +16,9 @@ use Rattle.log_laws.specs.Sound.{IsSoundStore}
 use Rattle.log_book.specs.Book.{BookView, IsBook, Makes}
 use Rattle.log_book.specs.Histories.{History, SeatCall, calls_of_seat, left_by_all}
 use Rattle.log_book.specs.Making.{MayMake}
-use Rattle.log_book.proofs.Callers.{all_grow, left_by_all-append}
+use Rattle.log_book.proofs.Callers.{all_grow, book_of_bytes, left_by_all-append}
 use Rattle.log_hub.specs.Lock.{IsFrontOf, IsSeenOf, PutsBack, TakesOut, seen_of_book}
-use Rattle.log_hub.specs.Seats.{Extends, HasAll, HasEach, HasEachName, HasSeen, IsSeat, MayAskFor, log_in_store, floor_after, floor_after_all, floor_seen, is_next_version, log_after, log_after_all, log_seen, map_after, map_after_all, map_seen, map_with, names_after, names_after_all, names_seen, read_behind_log}
+use Rattle.log_hub.specs.Seats.{Extends, HasAll, HasEach, HasEachName, HasSeen, IsSeat, MayAskFor, MayStand, log_in_store, floor_after, floor_after_all, floor_seen, is_next_version, log_after, log_after_all, log_seen, map_after, map_after_all, map_seen, map_with, names_after, names_after_all, names_seen, read_behind_log}
 use Rattle.log_hub.specs.Sights.{Seen, Sight}
 use Rattle.log_hub.proofs.HistoryParts.{calls_of_seat-append, front_itself}
 use Rattle.log_hub.proofs.StoreLogs.{log_at, log_front, log_long}
@@ -209,7 +209,7 @@ has_by s b seat book of =
     let now : left_by_all (left_by_all s.opening s.front) rest ≡ b.objects =
     sym (left_by_all-append s.opening s.front rest) ∙ (ap (left_by_all s.opening) (sym of.front.1) ∙ (ap (λ (o : Objects). left_by_all o b.history) of.opened ∙ book.replays.left)) in
     let grown : HasObjectsOf (left_by_all s.opening s.front) b.objects = subst (HasObjectsOf (left_by_all s.opening s.front)) now (all_grow (left_by_all s.opening s.front) rest) in
-    has_grows (left_by_all s.opening s.front) b.objects (log_seen s) (floor_seen s) (map_seen s) (names_seen s) seat.sound book.sound grown seat.has
+    has_grows (left_by_all s.opening s.front) b.objects (log_seen s) (floor_seen s) (map_seen s) (names_seen s) seat.left.sound book.sound grown seat.left.has
 
 puts_next : (s : Seen) (asked : Asked) → MayAskFor s asked → PutsNext (log_seen s) asked
 puts_next s list_names ask = tt
@@ -217,15 +217,19 @@ puts_next s (get_object name) ask = tt
 puts_next s (put_file name bytes) ask = tt
 puts_next s (put_commit version bytes) ask = ask.0
 
-may_make : (s : Seen) (asked : Asked) (objects : Objects) → MayAskFor s asked → IsSoundStore objects → HasSeen objects s → MayMake objects asked
-may_make s list_names objects ask sound has = tt
-may_make s (get_object name) objects ask sound has = tt
-may_make s (put_file name bytes) objects ask sound has = ask objects sound has
-may_make s (put_commit version bytes) objects ask sound has = ask.1 objects sound has
+may_make : (s : Seen) (asked : Asked) (objects : Objects) → MayAskFor s asked → MayStand objects s → MayMake objects asked
+may_make s list_names objects ask may = tt
+may_make s (get_object name) objects ask may = tt
+may_make s (put_file name bytes) objects ask may = ask objects may
+may_make s (put_commit version bytes) objects ask may = ask.1 objects may
+
+-- what the book has may stand when such a seat makes a call
+stands_by : (s : Seen) (b : BookView) → IsSeat s → IsBook b → IsSeenOf b.opening b.history s → MayStand b.objects s
+stands_by s b seat book of = record { sound = book.sound; bytes = book_of_bytes b book; has = has_by s b seat book of }
 
 -- the book may make a call that a seat may ask for
 pub may_answer : (s : Seen) (b : BookView) (asked : Asked) → IsSeat s → IsBook b → IsSeenOf b.opening b.history s → MayAskFor s asked → MayMake b.objects asked
-may_answer s b asked seat book of ask = may_make s asked b.objects ask book.sound (has_by s b seat book of)
+may_answer s b asked seat book of ask = may_make s asked b.objects ask (stands_by s b seat book of)
 
 own_call : (seat : ℕ) (call : SeatCall) → call.seat ≡ seat → calls_of_seat seat (call ∷ []) ≡ call ∷ []
 own_call seat call is = let same : (call.seat == seat) ≡ true = grind (arith, nat_tests) in rw same refl
@@ -236,7 +240,8 @@ pub sees : (s : Seen) (b later : BookView) (asked : Asked) (told : Told) → IsS
 sees s b later asked told seat book of ask makes now =
     let call : SeatCall = record { seat = s.number; asked = asked; told = told } in
     let has = has_by s b seat book of in
-    let may = may_make s asked b.objects ask book.sound has in
+    let stands = stands_by s b seat book of in
+    let may = may_make s asked b.objects ask stands in
     let mine : calls_of_seat s.number later.history ≡ s.mine ++ call ∷ [] =
     ap (calls_of_seat s.number) makes.history ∙ (calls_of_seat-append s.number b.history (call ∷ []) ∙ (ap (λ (l : History). l ++ calls_of_seat s.number (call ∷ [])) of.mine ∙ ap (λ (l : History). s.mine ++ l) (own_call s.number call refl))) in
     let there : left_by_all s.opening (s.front ++ of.front.0) ≡ b.objects = ap (left_by_all s.opening) (sym of.front.1) ∙ (ap (λ (o : Objects). left_by_all o b.history) of.opened ∙ book.replays.left) in
@@ -254,14 +259,16 @@ sees s b later asked told seat book of ask makes now =
       between = of.front.0;
       front = makes.history ∙ ap (λ (l : History). l ++ call ∷ []) of.front.1;
       told_so = makes.told ∙ ap (λ (o : Objects). told_by_call o asked) (sym there);
-      sound = subst IsSoundStore (sym there) book.sound;
-      had = subst (λ (o : Objects). HasSeen o s) (sym there) has;
+      stood = subst (λ (o : Objects). MayStand o s) (sym there) stands;
       seat = record {
         told = now.replays.told;
         own = refl;
-        sound = subst IsSoundStore (sym now.replays.left) now.sound;
-        has = subst (λ (y : Objects × Objects × History). HasAll y.0 (log_after_all (log_in_store y.1) y.2) (floor_after_all (length (log_in_store y.1)) y.2) (map_after_all [] y.2) (names_after_all [] y.2))
-            (λ i. (sym (now.replays.left ∙ makes.objects) i, sym opened i, sym mine i)) of_mine;
+        left = record {
+          sound = subst IsSoundStore (sym now.replays.left) now.sound;
+          bytes = subst AreBytes (sym now.replays.left) (book_of_bytes later now);
+          has = subst (λ (y : Objects × Objects × History). HasAll y.0 (log_after_all (log_in_store y.1) y.2) (floor_after_all (length (log_in_store y.1)) y.2) (map_after_all [] y.2) (names_after_all [] y.2))
+              (λ i. (sym (now.replays.left ∙ makes.objects) i, sym opened i, sym mine i)) of_mine;
+        };
       };
     }
 

@@ -29,12 +29,12 @@ told_of_get old name found new e = cc (e.told_so)
 
 -- a get gives what was put or given before
 pub get_gives : (old : Seen) (name : List ℕ) (found : Option (List ℕ)) (new : Seen) (bytes : List ℕ) → Extends old (get_object name) (told_object found) new → object_at (map_seen old) name ≡ Some bytes → found ≡ Some bytes
-get_gives old name found new bytes e h = told_of_get old name found new e ∙ stand_at (left_by_all old.opening (old.front ++ e.between)) (map_seen old) name bytes e.had.mapped h
+get_gives old name found new bytes e h = told_of_get old name found new e ∙ stand_at (left_by_all old.opening (old.front ++ e.between)) (map_seen old) name bytes e.stood.has.mapped h
 
 -- what the log that was seen has stands
 log_stands : (old : Seen) (asked : Asked) (told : Told) (new : Seen) (version : ℕ) (bytes : List ℕ) → (e : Extends old asked told new) → slice_get (log_seen old) version ≡ Some bytes → object_at (at_call old asked told new e) (commit_name version) ≡ Some bytes
 log_stands old asked told new version bytes e h =
-    log_has (left_by_all old.opening (old.front ++ e.between)) e.sound version bytes (got_in_front (log_seen old) (log_in_store (left_by_all old.opening (old.front ++ e.between))) version bytes e.had.begins h)
+    log_has (left_by_all old.opening (old.front ++ e.between)) e.stood.sound version bytes (got_in_front (log_seen old) (log_in_store (left_by_all old.opening (old.front ++ e.between))) version bytes e.stood.has.begins h)
 
 pub get_gives_commit : (old : Seen) (name : List ℕ) (version : ℕ) (found : Option (List ℕ)) (new : Seen) (bytes : List ℕ) → Extends old (get_object name) (told_object found) new → name ≡ commit_name version → slice_get (log_seen old) version ≡ Some bytes → found ≡ Some bytes
 get_gives_commit old name version found new bytes e is h =
@@ -43,7 +43,7 @@ get_gives_commit old name version found new bytes e is h =
 -- and nothing only where nothing was told of the name
 pub get_none : (old : Seen) (name : List ℕ) (found : Option (List ℕ)) (new : Seen) → Extends old (get_object name) (told_object found) new → found ≡ None → Contains (names_seen old) name → ⊥
 get_none old name found new e none has =
-    let stands : IsSome (object_at (left_by_all old.opening (old.front ++ e.between)) name) = named_stands (left_by_all old.opening (old.front ++ e.between)) (names_seen old) name e.had.named has in
+    let stands : IsSome (object_at (left_by_all old.opening (old.front ++ e.between)) name) = named_stands (left_by_all old.opening (old.front ++ e.between)) (names_seen old) name e.stood.has.named has in
     let absent : object_at (left_by_all old.opening (old.front ++ e.between)) name ≡ None = sym (told_of_get old name found new e) ∙ none in
     let wrong : false ≡ true = sym (ap is_some absent) ∙ stands in
     absurd cc
@@ -55,10 +55,10 @@ listed_there old names new name e stands =
     subst (λ (l : List (List ℕ)). Contains l name) (sym is) ((listed_iff_stands (left_by_all old.opening (old.front ++ e.between)) name).1 stands)
 
 pub lists_told : (old : Seen) (names : List (List ℕ)) (new : Seen) → Extends old list_names (told_names names) new → (name : List ℕ) → Contains (names_seen old) name → Contains names name
-lists_told old names new e name h = listed_there old names new name e (named_stands (left_by_all old.opening (old.front ++ e.between)) (names_seen old) name e.had.named h)
+lists_told old names new e name h = listed_there old names new name e (named_stands (left_by_all old.opening (old.front ++ e.between)) (names_seen old) name e.stood.has.named h)
 
 pub lists_map : (old : Seen) (names : List (List ℕ)) (new : Seen) → Extends old list_names (told_names names) new → (name bytes : List ℕ) → object_at (map_seen old) name ≡ Some bytes → Contains names name
-lists_map old names new e name bytes h = listed_there old names new name e (ap is_some (stand_at (left_by_all old.opening (old.front ++ e.between)) (map_seen old) name bytes e.had.mapped h))
+lists_map old names new e name bytes h = listed_there old names new name e (ap is_some (stand_at (left_by_all old.opening (old.front ++ e.between)) (map_seen old) name bytes e.stood.has.mapped h))
 
 pub lists_log : (old : Seen) (names : List (List ℕ)) (new : Seen) → Extends old list_names (told_names names) new → (version : ℕ) (bytes : List ℕ) → slice_get (log_seen old) version ≡ Some bytes → Contains names (commit_name version)
 lists_log old names new e version bytes h = listed_there old names new (commit_name version) e (ap is_some (log_stands old list_names (told_names names) new version bytes e h))
@@ -108,8 +108,8 @@ reads_on old None new e fits =
     let there = left_by_all old.opening (old.front ++ e.between) in
     let none : object_at (left_by_all old.opening (old.front ++ e.between)) (commit_name (length (log_seen old))) ≡ None = sym (told_of_get old (commit_name (length (log_seen old))) None new e) in
     let enough : floor_seen old ≤ length (log_seen old) = elim (cases_lt (length (log_seen old)) (commit_count (left_by_all old.opening (old.front ++ e.between)))) [
-      | inl low ↦ let wrong : false ≡ true = sym (ap is_some none) ∙ commits_stand (left_by_all old.opening (old.front ++ e.between)) e.sound.table (length (log_seen old)) low in absurd cc
-      | inr past ↦ omega (arith, e.had.enough, past)
+      | inl low ↦ let wrong : false ≡ true = sym (ap is_some none) ∙ commits_stand (left_by_all old.opening (old.front ++ e.between)) e.stood.sound.table (length (log_seen old)) low in absurd cc
+      | inr past ↦ omega (arith, e.stood.has.enough, past)
     ] in (
       enough,
       log_extends old (get_object (commit_name (length (log_seen old)))) (told_object None) new e ∙ unread (is_next_version (commit_version (commit_name (length (log_seen old)))) (length (log_seen old))),

@@ -1,7 +1,7 @@
 -- What a seat has seen, by its own calls, and what that is worth.
 use Rattle.std.specs.Prelude.{◌≡◌, ◌==◌, ◌≤◌, ℕ, zero, suc, Bool, true, false, List, [], ◌∷◌, ◌++◌, length, max, Option, None, Some, IsSome}
 use Rattle.store_core.specs.Names.{commit_name, commit_version}
-use Rattle.store_core.specs.Objects.{Objects, object_at}
+use Rattle.store_core.specs.Objects.{AreBytes, Objects, object_at}
 use Rattle.store_core.specs.declared.store.Put.{Put}
 use Rattle.store_core.specs.declared.store.Put.TheVariants.{Created, Exists}
 use Rattle.session_core.specs.Talks.{Asked, Told, get_object, list_names, put_commit, put_file, told_names, told_object, told_put}
@@ -52,7 +52,8 @@ log_after_all log (call ∷ history) = log_after_all (log_after log call.asked c
 abbrev pub log_seen : Seen → List (List ℕ)
 log_seen s = log_after_all (log_in_store s.opening) s.mine
 
--- ---- how many commits it knows to stand
+-- ---- how many commits it knows to stand: one more than the greatest version that it was told of, in a sound store the
+-- number of its commits
 
 abbrev pub floor_after : ℕ → Asked → Told → ℕ
 floor_after floor list_names (told_names names) = count_in names
@@ -123,25 +124,30 @@ pub record HasAll (objects : Objects) (log : List (List ℕ)) (floor : ℕ) (map
 abbrev pub HasSeen : Objects → Seen → Type 0
 HasSeen objects s = HasAll objects (log_seen s) (floor_seen s) (map_seen s) (names_seen s)
 
+-- What may stand when a seat makes a call: a sound store of bytes that has what the seat has seen.
+pub record MayStand (objects : Objects) (s : Seen) : Type 0 where
+  pub sound : IsSoundStore objects
+  pub bytes : AreBytes objects
+  pub has : HasSeen objects s
+
 -- What is so of every seat: the front that it saw is one of a store of one thread, in which its calls are just its own,
--- and what that leaves is sound and has what the seat has seen.
+-- and what that leaves is sound, of bytes, and has what the seat has seen.
 pub record IsSeat (s : Seen) : Type 0 where
   pub told : AreToldSo s.opening s.front
   pub own : calls_of_seat s.number s.front ≡ s.mine
-  pub sound : IsSoundStore (left_by_all s.opening s.front)
-  pub has : HasSeen (left_by_all s.opening s.front) s
+  pub left : MayStand (left_by_all s.opening s.front) s
 
--- What a seat may ask for: the commit of the version behind its log, admissible there in every sound store that has what
--- the seat has seen; and beside the commits what may be put into every such store.
+-- What a seat may ask for: the commit of the version behind its log, admissible there in every store that may stand; and
+-- beside the commits what may be put into every such store.
 abbrev pub MayAskFor : Seen → Asked → Type 0
 MayAskFor s list_names = Unit {0}
 MayAskFor s (get_object name) = Unit {0}
-MayAskFor s (put_file name bytes) = (objects : Objects) → IsSoundStore objects → HasSeen objects s → MayPutBeside objects name bytes
-MayAskFor s (put_commit version bytes) = (version ≡ length (log_seen s)) × ((objects : Objects) → IsSoundStore objects → HasSeen objects s → IsAdmissible objects version bytes)
+MayAskFor s (put_file name bytes) = (objects : Objects) → MayStand objects s → MayPutBeside objects name bytes
+MayAskFor s (put_commit version bytes) = (version ≡ length (log_seen s)) × ((objects : Objects) → MayStand objects s → IsAdmissible objects version bytes)
 
 -- A seat has made a call: it is the last of its own and of the front that it has seen, and it was told what a store of one
--- thread tells there, which is sound and has what the seat had seen before. What lies between the front that it had seen and
--- its call are calls of others.
+-- thread tells there, which is sound, of bytes, and has what the seat had seen before. What lies between the front that it
+-- had seen and its call are calls of others.
 pub record Extends (old : Seen) (asked : Asked) (told : Told) (new : Seen) : Type 0 where
   pub number : new.number ≡ old.number
   pub made : new.made ≡ old.made
@@ -150,8 +156,7 @@ pub record Extends (old : Seen) (asked : Asked) (told : Told) (new : Seen) : Typ
   pub between : History
   pub front : new.front ≡ (old.front ++ between) ++ record { seat = old.number; asked = asked; told = told } ∷ []
   pub told_so : told ≡ told_by_call (left_by_all old.opening (old.front ++ between)) asked
-  pub sound : IsSoundStore (left_by_all old.opening (old.front ++ between))
-  pub had : HasSeen (left_by_all old.opening (old.front ++ between)) old
+  pub stood : MayStand (left_by_all old.opening (old.front ++ between)) old
   pub seat : IsSeat new
 
 -- A file that was created is among what the seat put; where another stands there, its name is one that it was told stands.

@@ -62,15 +62,15 @@ impl Lesson<Book, View> for Returning {
 }
 
 /// A step that puts it back as it was.
-pub struct Undoing;
+pub struct ReturningUnused;
 
-impl Outcome<Book, View> for Undoing {
+impl Outcome<Book, View> for ReturningUnused {
     ghost use Rattle.log_hub.specs.Lock.{PutsBackUnused};
 
     ghost then = { PutsBackUnused };
 }
 
-impl Lesson<Book, View> for Undoing {
+impl Lesson<Book, View> for ReturningUnused {
     ghost fact = { λ v items. Unit {0} };
 }
 
@@ -141,7 +141,7 @@ pub fn put_back<R: Wait>(rt: &R, inlet: &Inlet, pass: &mut Pass, mut book: Book)
 }
 
 /// Puts it back as it was taken.
-pub fn hand_back<R: Wait>(rt: &R, inlet: &Inlet, pass: &mut Pass, mut book: Book)
+pub fn put_back_unused<R: Wait>(rt: &R, inlet: &Inlet, pass: &mut Pass, mut book: Book)
     requires seat { IsSeatAt (sends_on inlet.now) pass.old }
     requires one { ruled_capacity (sends_on inlet.now) ≡ 1 }
     requires same { IsUnused (view pass.old) book }
@@ -149,7 +149,7 @@ pub fn hand_back<R: Wait>(rt: &R, inlet: &Inlet, pass: &mut Pass, mut book: Book
     ensures back { PutsBackUnused (view pass.old) book (view pass.new) }
 {
     for _ in rt.forever() {
-        match inlet.send_as::<Undoing, R>(rt, pass, book) {
+        match inlet.send_as::<ReturningUnused, R>(rt, pass, book) {
             Ok(()) => return,
             Err(e) => book = e.into_inner(),
         }

@@ -24,12 +24,13 @@ pub lesser_below : (objects : Objects) (version last : ℕ) → version ≤ last
 lesser_below objects version last low below name at bytes told before there = below name at bytes told (omega (arith, low, before)) there
 
 module _ (objects : Objects) (walk : Walk) (is : IsWalk objects walk) where
+  -- What comes below the walk's next version is sound.
+  pub sound_next : (version : ℕ) → version ≡ walk.next → AreCheckpointsSoundBelow objects version → IsSoundBelow objects version
+  sound_next version same below = front_below objects (tree_of walk.schema) (creation ∷ is.walked.later) version is.walked.stand is.walked.lawful (omega (arith, is.walked.at, same)) below
+
   -- The walk's next version is the first unsound one, where it breaks the store.
   pub breaks_next : (version : ℕ) → version ≡ walk.next → AreCheckpointsSoundBelow objects version → (IsSoundBelow objects (suc version) → ⊥) → IsFirstUnsound objects version
-  breaks_next version same below breaks = (
-    front_below objects (tree_of walk.schema) (creation ∷ is.walked.later) version is.walked.stand is.walked.lawful (omega (arith, is.walked.at, same)) below,
-    breaks,
-  )
+  breaks_next version same below breaks = (sound_next version same below, breaks)
 
   -- So is the one before it.
   pub breaks_last : (version : ℕ) → walk.next ≡ suc version → AreCheckpointsSoundBelow objects version → (IsSoundBelow objects (suc version) → ⊥) → IsFirstUnsound objects version

@@ -10,5 +10,6 @@ pub mod ListParts
 pub mod NameParts
 pub mod NumberParts
 pub mod ReasonParts
+pub mod SmallParts
 pub mod TraceParts
 pub mod WalkParts

@@ -13,4 +13,4 @@ of_store stores.Memory = Memory
 abbrev pub audit_text : AuditError → List ℕ
 audit_text Lost = codes "St1 Lost"
 audit_text Memory = codes "St2 Memory"
-audit_text (TooLarge name) = codes "file " ++ (string_bytes name ++ codes ": P9 TooLarge")
+audit_text (TooLarge version name) = codes "file " ++ (string_bytes name ++ codes ": P9 TooLarge")

@@ -1,5 +1,5 @@
 -- What an audit tells of objects.
-use Rattle.std.specs.Prelude.{◌≡◌}
+use Rattle.std.specs.Prelude.{◌≡◌, ℕ}
 use Rattle.table_check.specs.SoundStores.{IsSoundStore}
 use Rattle.store_core.specs.Objects.{Objects}
 use Rattle.table_check.specs.Below.{IsFirstUnsound}
@@ -12,3 +12,8 @@ use Rattle.table_audit.specs.declared.verdict.Verdict.TheVariants.{Sound, Unsoun
 abbrev pub IsVerdictOf : Objects → Verdict → Type 0
 IsVerdictOf objects (Sound versions) = IsSoundStore objects × (commit_count objects ≡ versions)
 IsVerdictOf objects (Unsound unsound) = IsFirstUnsound objects unsound.version × IsReasonOf objects unsound.version unsound.reason
+
+-- how many versions are told, or the unsound one
+abbrev pub end_of : Verdict → ℕ
+end_of (Sound versions) = versions
+end_of (Unsound unsound) = unsound.version

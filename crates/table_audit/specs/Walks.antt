@@ -7,8 +7,9 @@ use Rattle.store_core.specs.Objects.{Objects, names_of}
 use Rattle.table_check.specs.Below.{IsSoundBelow}
 use Rattle.table_check.specs.Named.{least_named}
 use Rattle.table_check.specs.Walked.{IsWalked}
+use Rattle.table_audit.specs.LargeFiles.{HasNoLargeBelow}
 use Rattle.table_audit.specs.Reasons.{IsNamedBehindGap, IsReasonOf}
-use Rattle.table_audit.specs.Verdicts.{IsVerdictOf}
+use Rattle.table_audit.specs.Verdicts.{IsVerdictOf, end_of}
 use Rattle.table_audit.specs.declared.verdict.Verdict.{Verdict}
 use Rattle.table_audit.specs.declared.verdict.Verdict.TheVariants.{Sound, Unsound}
 use Rattle.table_audit.specs.declared.walk.Beginning.{Beginning}
@@ -17,10 +18,12 @@ use Rattle.table_audit.specs.declared.walk.Reached.{Reached}
 use Rattle.table_audit.specs.declared.walk.Reached.TheVariants.{Behind, Over}
 use Rattle.table_audit.specs.declared.walk.Walk.{Walk}
 
--- The commits of the versions below the walk's next one were walked over, and its snapshot is theirs.
+-- The commits of the versions below the walk's next one were walked over, none of them has a file that is too large, and
+-- the walk's snapshot is theirs.
 pub record IsWalk (objects : Objects) (walk : Walk) : Type 0 where
   pub log : List (List Action)
   pub walked : IsWalked objects (tree_of walk.schema) walk.next log
+  pub small : HasNoLargeBelow objects walk.next
   pub snapshot : IsSnapshotOf log walk.snapshot
 
 -- These are all names that stand, and a walk was begun.
@@ -47,6 +50,11 @@ IsEnd next names (Unsound unsound) = (least_named next names ≡ Some unsound.ve
 abbrev pub IsWalkOrVerdict : Objects → Walk → Reached → Type 0
 IsWalkOrVerdict objects walk Behind = IsWalk objects walk
 IsWalkOrVerdict objects walk (Over verdict) = IsVerdictOf objects verdict
+
+-- where a verdict is known, no version below the one that it tells has a file that is too large
+abbrev pub IsReadable : Objects → Reached → Type 0
+IsReadable objects Behind = Unit {0}
+IsReadable objects (Over verdict) = HasNoLargeBelow objects (end_of verdict)
 
 -- a walk that goes on is behind a version
 abbrev pub IsWalkBehind : (last : ℕ) → Walk → Reached → Type 0

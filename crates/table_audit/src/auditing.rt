@@ -1,15 +1,14 @@
 //! Whether the objects of a store, or of whatever else is read as one, are sound.
 
 ghost use Rattle.std.specs.Prelude.{◌≡◌, ℕ, suc, List, Option, Some, map, IfOk, IfErr, IfSome, IfNone, IsErrOf, string_bytes};
-ghost use Rattle.schema_tree.specs.Schema.{tree_of};
 ghost use Rattle.store_core.specs.Objects.{object_at};
 ghost use Rattle.table_check.specs.Below.{IsSoundBelow};
 ghost use Rattle.table_log.specs.Restoring.{IsSoundCheckpoint, checkpoint_version};
 ghost use Rattle.table_audit.specs.Audits.{AreCheckpointsOf, Audits, ReadLog};
 ghost use Rattle.table_audit.specs.Calls.{ReaderCall, ReaderTraced, reads};
-ghost use Rattle.table_audit.specs.LargeFiles.{TellsLarge, TellsLargeFile, TellsNoFile};
+ghost use Rattle.table_audit.specs.LargeFiles.{HasNoLargeBelow, TellsLargeFile, TellsNoFile};
 ghost use Rattle.table_audit.specs.Reasons.{IsReasonOf};
-ghost use Rattle.table_audit.specs.Verdicts.{IsVerdictOf};
+ghost use Rattle.table_audit.specs.Verdicts.{IsVerdictOf, end_of};
 ghost use Rattle.table_audit.specs.Walks.{IsWalk, IsWalkOver};
 
 use crate::checkpoint::{Found, checkpoint_found};
@@ -31,9 +30,11 @@ use store_core::{GREATEST_VERSION, commit_name};
 /// to the first unsound version. The time is linear in what is read and in the names, but for logarithms: of a
 /// snapshot's places, of the applications of one commit, and of the order of checkpoints' lines and names. `Lost` comes
 /// where a call was lost, `Memory` where memory runs out. `TooLarge` comes where a data file is larger than what is
-/// read of one: nothing is told then.
+/// read of one: no verdict is told then, but the first version whose commit adds such a file, below which all is sound.
+/// No version of a store that is told sound has one, and none below the unsound version that is told.
 pub fn audit<R: ObjectReader>(alloc: Global, reader: &mut R) -> Result<Verdict, AuditError>
     ensures told { R.is_steady reader.old → IfOk result (λ verdict. IsVerdictOf (R.objects reader.old) verdict) }
+    ensures readable { R.is_steady reader.old → IfOk result (λ verdict. HasNoLargeBelow (R.objects reader.old) (end_of verdict)) }
     // These calls are made of the reader, and no others.
     ensures called { (calls : List ReaderCall) × ReaderTraced R.makes reader.old calls reader.new × Audits calls }
     ensures untouched { R.is_steady reader.old → R.objects reader.new ≡ R.objects reader.old }
@@ -61,13 +62,14 @@ fn audit_walk<R: ObjectReader>(
 ) -> Result<Verdict, AuditError>
     requires { walk.next ≡ 1 }
     ensures told { R.is_steady reader.old → IsWalkOver (R.objects reader.old) (map string_bytes names.now) walk → IfOk result (λ verdict. IsVerdictOf (R.objects reader.old) verdict) }
+    ensures readable { R.is_steady reader.old → IsWalkOver (R.objects reader.old) (map string_bytes names.now) walk → IfOk result (λ verdict. HasNoLargeBelow (R.objects reader.old) (end_of verdict)) }
     ensures called { (calls : List ReaderCall) × (checkpoints : List (ℕ × List ℕ)) × ReaderTraced R.makes reader.old calls reader.new
         × AreCheckpointsOf (map string_bytes names.now) checkpoints × ReadLog checkpoints walk.next calls }
     ensures untouched { R.is_steady reader.old → R.objects reader.new ≡ R.objects reader.old }
     ensures steady { R.is_steady reader.old → R.is_steady reader.new }
     ensures reliable { R.is_reliable reader.old → R.is_reliable reader.new }
     ensures never_lost { R.is_reliable reader.old → IsErrOf result AuditError.Lost → ⊥ }
-    ensures large { R.is_steady reader.old → IfErr result (TellsLarge (R.objects reader.old) (tree_of walk.schema)) }
+    ensures large { R.is_steady reader.old → IsWalkOver (R.objects reader.old) (map string_bytes names.now) walk → IfErr result (TellsLargeFile (R.objects reader.old)) }
 {
     let checkpoints = sorted_checkpoints(alloc, names)?;
     for checkpoint in &checkpoints {

@@ -17,9 +17,9 @@ pub enum AuditError {
     Lost,
     /// Memory ran out.
     Memory,
-    /// A data file is over 64 MiB, or claims over 4,194,304 rows, or a text or bytes of it are over 1 MiB: whether it
-    /// is one of the table's isn't known.
-    TooLarge { name: String },
+    /// A data file that the commit of a version adds is over 64 MiB, or claims over 4,194,304 rows, or a text or bytes
+    /// of it are over 1 MiB: whether it is one of the table's isn't known. All below the version is sound.
+    TooLarge { version: u64, name: String },
 }
 
 impl Display for AuditError {
@@ -29,7 +29,7 @@ impl Display for AuditError {
         match self {
             AuditError::Lost => f.write_str("St1 Lost"),
             AuditError::Memory => f.write_str("St2 Memory"),
-            AuditError::TooLarge { name } => write!(f, "file {name}: P9 TooLarge"),
+            AuditError::TooLarge { name, .. } => write!(f, "file {name}: P9 TooLarge"),
         }
     }
 }

@@ -14,5 +14,5 @@ returns c = record {
   grown = λ book front rest is split.
       subst (HasObjectsOf (left_by_all book.opening front)) (sym (left_by_all-append book.opening front rest) ∙ (ap (left_by_all book.opening) (sym split) ∙ is.replays.left)) (all_grow (left_by_all book.opening front) rest);
   told = λ book front rest call is split. (told_front book.opening front _ (subst (AreToldSo book.opening) split is.replays.told)).1.0;
-  bytes = λ book front rest is split are. all_of_bytes book.opening front are (might_front book.opening front rest (subst (MightMakeAll book.opening) split is.might));
+  bytes = λ book front rest is split. all_of_bytes book.opening front is.bytes (might_front book.opening front rest (subst (MightMakeAll book.opening) split is.might));
 }

@@ -1,12 +1,16 @@
 use Rattle.std.proofs.Common.{◌≡◌, suc, map, string_bytes, refl, sym, subst, ◌∙◌, arith, ◌+◌, [], drop}
+use Rattle.std.proofs.lemmas.Result.{err_from_is_err_and}
 use Rattle.store_core.specs.Names.{greatest_version}
 use Rattle.store_core.specs.Objects.{Objects}
 use Rattle.table_check.specs.Below.{AreCheckpointsSoundBelow, IsSoundBelow}
+use Rattle.table_audit.specs.LargeFiles.{TellsLargeFile}
 use Rattle.table_audit.specs.Listed.{listed_view}
 use Rattle.table_audit.specs.Reasons.{IsReasonOf}
 use Rattle.table_audit.specs.Walks.{IsWalk, IsWalkOver}
 use Rattle.table_audit.proofs.EndParts.{breaks_last, whole_sound}
+use Rattle.table_audit.proofs.LargeParts.{none_told}
 use Rattle.table_audit.proofs.ListParts.{IsDone, ahead_more, all_listed, are_listed, below_all, below_at, done_more, first_ahead, small_at, told_at, all_same, here_at}
+use Rattle.table_audit.proofs.SmallParts.{fewer_below}
 use Rattle.table_audit.proofs.TraceParts.{goes_on, reads_ended, reads_none, reads_to_end}
 use Rattle.table_audit.proofs.auditing.audit_walk.Goals as goal
 
@@ -159,6 +163,98 @@ returns-clause-told g c = λ steady over.
     let low : AreCheckpointsSoundBelow (g.R.ObjectReader.objects c.loop-checkpoint.reader) greatest_version =
     subst (λ (o : Objects). AreCheckpointsSoundBelow o greatest_version) (sym same) (below_all objects items all i greatest_version c.loop-checkpoint-test.false (c.loop-checkpoint.invariant.seen steady over)) in
     rw (c.in-Over-2.is, same) at (c.in_ok-walk_on-2.ensures.reached here begun low)
+
+-- ---- no file is too large below the version that is told
+
+pub returns-in-Over-clause-readable : goal.returns-in-Over-clause-readable
+returns-in-Over-clause-readable g c = λ steady over.
+    let objects = g.R.ObjectReader.objects c.args.reader.now in
+    let here : g.R.ObjectReader.is_steady c.loop-checkpoint.reader = c.loop-checkpoint.invariant.steady steady in
+    let same : g.R.ObjectReader.objects c.loop-checkpoint.reader ≡ objects = c.loop-checkpoint.invariant.untouched steady in
+    let begun : IsWalkOver (g.R.ObjectReader.objects c.loop-checkpoint.reader) (map string_bytes c.args.names.now) c.loop-checkpoint.walk =
+    subst (λ (o : Objects). IsWalkOver o (map string_bytes c.args.names.now) c.loop-checkpoint.walk) (sym same) (over.0, c.loop-checkpoint.invariant.walk steady over) in
+    rw (c.in-Over.is, same) at (c.in_ok-walk_on.ensures.readable here begun)
+
+pub returns-in-Some-clause-readable : goal.returns-in-Some-clause-readable
+returns-in-Some-clause-readable g c = λ steady over.
+    let objects = g.R.ObjectReader.objects c.args.reader.now in
+    let items = c.deref-checkpoint-items.result.now in
+    let i = c.loop-checkpoint.checkpoint-index in
+    let x = c.checkpoint-item.result in
+    let listed = are_listed c.in_ok-checkpoints.checkpoints.items items c.deref-checkpoint-items.ensures.value c.in_ok-checkpoints.ensures.own c.in_ok-checkpoints.ensures.rising in
+    let all = all_listed objects (map string_bytes c.args.names.now) c.in_ok-checkpoints.checkpoints.items items over.0 c.deref-checkpoint-items.ensures.value c.in_ok-checkpoints.ensures.all in
+    let here : g.R.ObjectReader.is_steady c.loop-checkpoint.reader = c.loop-checkpoint.invariant.steady steady in
+    let same : g.R.ObjectReader.objects c.loop-checkpoint.reader ≡ objects = c.loop-checkpoint.invariant.untouched steady in
+    let begun : IsWalkOver (g.R.ObjectReader.objects c.loop-checkpoint.reader) (map string_bytes c.args.names.now) c.loop-checkpoint.walk =
+    subst (λ (o : Objects). IsWalkOver o (map string_bytes c.args.names.now) c.loop-checkpoint.walk) (sym same) (over.0, c.loop-checkpoint.invariant.walk steady over) in
+    let below : AreCheckpointsSoundBelow objects x.version = below_at objects items all i x c.loop-checkpoint-test.true c.checkpoint-item.is listed (c.loop-checkpoint.invariant.seen steady over) in
+    let low : AreCheckpointsSoundBelow (g.R.ObjectReader.objects c.loop-checkpoint.reader) x.version = subst (λ (o : Objects). AreCheckpointsSoundBelow o x.version) (sym same) below in
+    let walk : IsWalk objects c.walk_on.new.walk = rw (c.in-Behind.is, same) at (c.in_ok-walk_on.ensures.reached here begun low) in
+    let behind : c.walk_on.new.walk.next ≡ suc x.version = rw c.in-Behind.is at c.in_ok-walk_on.ensures.next in
+    fewer_below objects x.version c.walk_on.new.walk.next (omega (arith, behind)) walk.small
+
+pub returns-in-Behind-2-clause-readable : goal.returns-in-Behind-2-clause-readable
+returns-in-Behind-2-clause-readable g c = λ steady over.
+    let objects = g.R.ObjectReader.objects c.args.reader.now in
+    let items = c.deref-checkpoint-items.result.now in
+    let i = c.loop-checkpoint.checkpoint-index in
+    let all = all_listed objects (map string_bytes c.args.names.now) c.in_ok-checkpoints.checkpoints.items items over.0 c.deref-checkpoint-items.ensures.value c.in_ok-checkpoints.ensures.all in
+    let here : g.R.ObjectReader.is_steady c.loop-checkpoint.reader = c.loop-checkpoint.invariant.steady steady in
+    let same : g.R.ObjectReader.objects c.loop-checkpoint.reader ≡ objects = c.loop-checkpoint.invariant.untouched steady in
+    let begun : IsWalkOver (g.R.ObjectReader.objects c.loop-checkpoint.reader) (map string_bytes c.args.names.now) c.loop-checkpoint.walk =
+    subst (λ (o : Objects). IsWalkOver o (map string_bytes c.args.names.now) c.loop-checkpoint.walk) (sym same) (over.0, c.loop-checkpoint.invariant.walk steady over) in
+    let low : AreCheckpointsSoundBelow (g.R.ObjectReader.objects c.loop-checkpoint.reader) greatest_version =
+    subst (λ (o : Objects). AreCheckpointsSoundBelow o greatest_version) (sym same) (below_all objects items all i greatest_version c.loop-checkpoint-test.false (c.loop-checkpoint.invariant.seen steady over)) in
+    let walk : IsWalk objects c.walk_on-2.new.walk = rw (c.in-Behind-2.is, same) at (c.in_ok-walk_on-2.ensures.reached here begun low) in
+    walk.small
+
+pub returns-clause-readable : goal.returns-clause-readable
+returns-clause-readable g c = λ steady over.
+    let objects = g.R.ObjectReader.objects c.args.reader.now in
+    let here : g.R.ObjectReader.is_steady c.loop-checkpoint.reader = c.loop-checkpoint.invariant.steady steady in
+    let same : g.R.ObjectReader.objects c.loop-checkpoint.reader ≡ objects = c.loop-checkpoint.invariant.untouched steady in
+    let begun : IsWalkOver (g.R.ObjectReader.objects c.loop-checkpoint.reader) (map string_bytes c.args.names.now) c.loop-checkpoint.walk =
+    subst (λ (o : Objects). IsWalkOver o (map string_bytes c.args.names.now) c.loop-checkpoint.walk) (sym same) (over.0, c.loop-checkpoint.invariant.walk steady over) in
+    rw (c.in-Over-2.is, same) at (c.in_ok-walk_on-2.ensures.readable here begun)
+
+-- ---- a file that is too large
+
+pub returns-in_err-walk_on-clause-large : goal.returns-in_err-walk_on-clause-large
+returns-in_err-walk_on-clause-large g c = λ steady over.
+    let objects = g.R.ObjectReader.objects c.args.reader.now in
+    let items = c.deref-checkpoint-items.result.now in
+    let i = c.loop-checkpoint.checkpoint-index in
+    let x = c.checkpoint-item.result in
+    let listed = are_listed c.in_ok-checkpoints.checkpoints.items items c.deref-checkpoint-items.ensures.value c.in_ok-checkpoints.ensures.own c.in_ok-checkpoints.ensures.rising in
+    let all = all_listed objects (map string_bytes c.args.names.now) c.in_ok-checkpoints.checkpoints.items items over.0 c.deref-checkpoint-items.ensures.value c.in_ok-checkpoints.ensures.all in
+    let here : g.R.ObjectReader.is_steady c.loop-checkpoint.reader = c.loop-checkpoint.invariant.steady steady in
+    let same : g.R.ObjectReader.objects c.loop-checkpoint.reader ≡ objects = c.loop-checkpoint.invariant.untouched steady in
+    let begun : IsWalkOver (g.R.ObjectReader.objects c.loop-checkpoint.reader) (map string_bytes c.args.names.now) c.loop-checkpoint.walk =
+    subst (λ (o : Objects). IsWalkOver o (map string_bytes c.args.names.now) c.loop-checkpoint.walk) (sym same) (over.0, c.loop-checkpoint.invariant.walk steady over) in
+    let below : AreCheckpointsSoundBelow objects x.version = below_at objects items all i x c.loop-checkpoint-test.true c.checkpoint-item.is listed (c.loop-checkpoint.invariant.seen steady over) in
+    let low : AreCheckpointsSoundBelow (g.R.ObjectReader.objects c.loop-checkpoint.reader) x.version = subst (λ (o : Objects). AreCheckpointsSoundBelow o x.version) (sym same) below in
+    let p = err_from_is_err_and c.from_residual-in_err-walk_on.result c.from_residual-in_err-walk_on.ensures.1 in
+    rw (p.1, p.2) (subst (λ (o : Objects). TellsLargeFile o c.in_err-walk_on.field-0.0) same (c.in_err-walk_on.ensures.large here begun low))
+
+pub returns-in_err-reason-clause-large : goal.returns-in_err-reason-clause-large
+returns-in_err-reason-clause-large g c = λ steady over.
+    let p = err_from_is_err_and c.from_residual-in_err-reason.result c.from_residual-in_err-reason.ensures.1 in
+    rw (p.1, p.2) (none_told (g.R.ObjectReader.objects c.args.reader.now) c.in_err-reason.field-0.0 c.in_err-reason.ensures.no_file)
+
+pub returns-in_err-walk_on-2-clause-large : goal.returns-in_err-walk_on-2-clause-large
+returns-in_err-walk_on-2-clause-large g c = λ steady over.
+    let objects = g.R.ObjectReader.objects c.args.reader.now in
+    let items = c.deref-checkpoint-items.result.now in
+    let i = c.loop-checkpoint.checkpoint-index in
+    let all = all_listed objects (map string_bytes c.args.names.now) c.in_ok-checkpoints.checkpoints.items items over.0 c.deref-checkpoint-items.ensures.value c.in_ok-checkpoints.ensures.all in
+    let here : g.R.ObjectReader.is_steady c.loop-checkpoint.reader = c.loop-checkpoint.invariant.steady steady in
+    let same : g.R.ObjectReader.objects c.loop-checkpoint.reader ≡ objects = c.loop-checkpoint.invariant.untouched steady in
+    let begun : IsWalkOver (g.R.ObjectReader.objects c.loop-checkpoint.reader) (map string_bytes c.args.names.now) c.loop-checkpoint.walk =
+    subst (λ (o : Objects). IsWalkOver o (map string_bytes c.args.names.now) c.loop-checkpoint.walk) (sym same) (over.0, c.loop-checkpoint.invariant.walk steady over) in
+    let low : AreCheckpointsSoundBelow (g.R.ObjectReader.objects c.loop-checkpoint.reader) greatest_version =
+    subst (λ (o : Objects). AreCheckpointsSoundBelow o greatest_version) (sym same) (below_all objects items all i greatest_version c.loop-checkpoint-test.false (c.loop-checkpoint.invariant.seen steady over)) in
+    let p = err_from_is_err_and c.from_residual-in_err-walk_on-2.result c.from_residual-in_err-walk_on-2.ensures.1 in
+    rw (p.1, p.2) (subst (λ (o : Objects). TellsLargeFile o c.in_err-walk_on-2.field-0.0) same (c.in_err-walk_on-2.ensures.large here begun low))
 
 -- ---- which calls were made
 

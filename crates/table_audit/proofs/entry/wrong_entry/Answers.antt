@@ -4,10 +4,12 @@ use Rattle.delta_actions.specs.Action as kinds
 use Rattle.delta_actions.specs.Action.{views}
 use Rattle.delta_replay.specs.Snapshots.{IsSnapshotOf}
 use Rattle.schema_tree.specs.Schema.{tree_of}
+use Rattle.table_store.specs.Groups.{added, numbers}
 use Rattle.table_audit.specs.Entries.{EntryFollows, GroupFollows}
 use Rattle.table_audit.specs.Reasons.{IsNoClose, IsNoNext}
 use Rattle.table_audit.specs.declared.reason.Reason.{Reason}
 use Rattle.table_audit.proofs.GroupParts.{follows_close, follows_group, follows_none, none_weaker, some_each, some_weaker}
+use Rattle.table_audit.proofs.SmallParts.{close_numbers, none_small}
 use Rattle.table_audit.proofs.CallParts.{front_none}
 use Rattle.table_audit.proofs.entry.wrong_entry.Goals as goal
 
@@ -49,3 +51,9 @@ returns-in_err-_application-clause-called g c = ([], refl, front_none _)
 
 pub returns-in-Some-clause-called : goal.returns-in-Some-clause-called
 returns-in-Some-clause-called g c = ([], refl, front_none _)
+
+-- a close adds no file
+pub returns-in-Some-clause-small : goal.returns-in-Some-clause-small
+returns-in-Some-clause-small g c = λ steady.
+    let beside = views c.args.beside.now in
+    none_small (g.R.ObjectReader.objects c.args.reader.now) (tree_of c.args.schema.now) (numbers beside) (added beside) (close_numbers (string_bytes c.in-Some._application) beside (rw c.in-Some.is at c.in_ok-_application.ensures.found))

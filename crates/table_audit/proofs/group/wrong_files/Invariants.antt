@@ -6,6 +6,7 @@ use Rattle.table_audit.specs.Audits.{ReadInTurn, names_of_files}
 use Rattle.table_audit.specs.Calls.{ReaderCall, ReaderTraced}
 use Rattle.table_audit.specs.Entries.{HasFile}
 use Rattle.table_audit.proofs.GroupParts.{file_of, number_of}
+use Rattle.table_audit.proofs.SmallParts.{HasSmall}
 use Rattle.table_audit.proofs.group.wrong_files.Given as goal
 
 -- the files of the numbers that were seen are added, and stand
@@ -17,4 +18,5 @@ invariant-loop-i g l = record {
   named : AreFilesOf (map number_of (take l.i l.txns)) (map file_of (take l.i l.adds));
   called : (calls : List ReaderCall) × ReaderTraced g.R.ObjectReader.makes l.fn.reader calls l.reader × ReadInTurn (take l.i (names_of_files (map file_of l.adds))) calls;
   stand : g.R.ObjectReader.is_steady l.fn.reader → AllByRecursion (HasFile (g.R.ObjectReader.objects l.fn.reader) (tree_of l.fn.schema)) (map number_of (take l.i l.txns));
+  small : g.R.ObjectReader.is_steady l.fn.reader → AllByRecursion (HasSmall (g.R.ObjectReader.objects l.fn.reader) (tree_of l.fn.schema)) (map number_of (take l.i l.txns));
 }

@@ -1,4 +1,5 @@
-use Rattle.std.proofs.Common.{◌≡◌, List, Bor, map, refl, sym, ap, subst, ◌∙◌, []}
+use Rattle.std.proofs.Common.{◌≡◌, ℕ, List, Bor, IfErr, IfOk, map, refl, sym, ap, subst, ◌∙◌, []}
+use Rattle.std.specs.Option.{IfNone}
 use Rattle.std.proofs.lemmas.Result.{IfOk-weaker}
 use Rattle.delta_actions.specs.Action as kinds
 use Rattle.delta_actions.specs.Action.{TxnAction, views, AddAction}
@@ -8,6 +9,7 @@ use Rattle.schema_tree.specs.Schema.{tree_of}
 use Rattle.table_check.specs.Following.{AreNewIn}
 use Rattle.table_store.specs.Groups.{added, numbers}
 use Rattle.table_audit.specs.Entries.{GroupFollows, HaveFiles}
+use Rattle.table_audit.specs.LargeFiles.{AreSmall, AreToHold, TellsLarge}
 use Rattle.table_audit.specs.Reasons.{AreNoFiles, IsNoNext}
 use Rattle.table_audit.specs.declared.reason.Reason.{Reason}
 use Rattle.table_audit.proofs.GroupParts.{file_of, follows_picked, no_files_picked, none_new_picked, none_weaker, number_of, seen_numbers, some_each, some_weaker}
@@ -88,6 +90,15 @@ returns-clause-why g c = λ steady.
     (λ o why. some_each P Q (λ reason is log of. next_by_files objects schema version log beside reason (no_files_seen objects schema version reason (numbers beside) ns (added beside) files (picked_numbers g c) (picked_files g c) is)) o why)
     (c.wrong_files.ensures.why steady)
 
+pub returns-clause-large : goal.returns-clause-large
+returns-clause-large g c = λ steady.
+    let objects = g.R.ObjectReader.objects c.args.reader.now in
+    let schema = tree_of c.args.schema.now in
+    let ns = map number_of c.deref-2.result.now in
+    let told = c.wrong_files.ensures.large steady in
+    subst (λ (ms : List (List ℕ × ℕ)). IfErr c.wrong_files.result (TellsLarge objects schema c.args.version (AreToHold ms (added (views c.args.beside.now))))) (sym (picked_numbers g c))
+    (subst (λ (files : List AddAction). IfErr c.wrong_files.result (TellsLarge objects schema c.args.version (AreToHold ns files))) (sym (picked_files g c)) told)
+
 pub returns-then-not-are_txns_and_adds-clause-called : goal.returns-then-not-are_txns_and_adds-clause-called
 returns-then-not-are_txns_and_adds-clause-called g c = ([], refl, front_none _)
 
@@ -106,3 +117,12 @@ returns-in-Some-clause-called g c = ([], refl, front_none _)
 pub returns-clause-called : goal.returns-clause-called
 returns-clause-called g c =
     subst (λ (files : List AddAction). (calls : List ReaderCall) × ReaderTraced g.R.ObjectReader.makes c.args.reader.now calls c.wrong_files.new.reader × ReadFront (names_of_files files) calls) (sym (picked_files g c)) c.wrong_files.ensures.called
+
+pub returns-clause-small : goal.returns-clause-small
+returns-clause-small g c = λ steady.
+    let objects = g.R.ObjectReader.objects c.args.reader.now in
+    let schema = tree_of c.args.schema.now in
+    let ns = map number_of c.deref-2.result.now in
+    let small = c.wrong_files.ensures.small steady in
+    subst (λ (ms : List (List ℕ × ℕ)). IfOk c.wrong_files.result (λ o. IfNone o (AreSmall objects schema (AreToHold ms (added (views c.args.beside.now)))))) (sym (picked_numbers g c))
+    (subst (λ (files : List AddAction). IfOk c.wrong_files.result (λ o. IfNone o (AreSmall objects schema (AreToHold ns files)))) (sym (picked_files g c)) small)

@@ -3,7 +3,7 @@ use Rattle.log_book.specs.Book.{BookView}
 use Rattle.log_hub.specs.Sights.{Sight}
 use Rattle.log_hub.specs.Lock.{IsUnused}
 use Rattle.log_hub.proofs.Steps.{goes_back}
-use Rattle.log_hub.proofs.lock.hand_back.Goals as goal
+use Rattle.log_hub.proofs.lock.put_back_unused.Goals as goal
 
 pub send_as-requires-clause-rule : goal.send_as-requires-clause-rule
 send_as-requires-clause-rule g c =
