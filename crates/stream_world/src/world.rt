@@ -1,6 +1,8 @@
 //! A world: a store, and the actors that act on it.
 
-ghost use Rattle.std.specs.Prelude.{◌≡◌, ◌<◌, ◌||◌, [], Bool, None, OnOk, false, true};
+ghost use Rattle.std.specs.Prelude.{◌≡◌, ◌<◌, ◌||◌, [], Bool, None, OnErr, OnOk, Some, false, true};
+ghost use Rattle.std.specs.BTreeMap.{IsUnchanged, Updates};
+ghost use Rattle.std.specs.Ordering.{nat_cmp};
 ghost use Rattle.store_core.specs.Turns.{turns_left};
 ghost use Rattle.stream_model.specs.Events.{act, begin, die, land};
 ghost use Rattle.log_reading.specs.declared.log_cache.LogCache as caches;
@@ -60,6 +62,22 @@ fn tells_short(told: &Option<JobEnd>) -> bool
         Some(end) => end.is_short(),
         None => false,
     }
+}
+
+/// An actor takes its place, which an older one may have had. Fails where there is no memory for a new place, and
+/// changes nothing then.
+fn take_place(
+    actors: &mut BTreeMap<u64, Option<Actor>>,
+    actor: u64,
+    begun: Actor,
+) -> Result<(), AllocError>
+    ensures updates { OnOk result (Updates nat_cmp actors.old actors.new actor (Some (Some begun))) }
+    ensures err { OnErr result (IsUnchanged actors.old actors.new) }
+{
+    // Not by `insert`, whose result has an actor in either of two ways: Rattle's own compiler counts the parts of both,
+    // and takes no type of more than 8,192.
+    *actors.entry(actor)?.or_insert(None) = Some(begun);
+    Ok(())
 }
 
 impl<S: Store> World<S> {
@@ -167,11 +185,11 @@ impl<S: Store> World<S> {
             session,
             hand: Hand::Fresh,
         };
-        match self.actors.insert(actor, Some(begun)) {
-            Ok(_before) => Ok(()),
-            Err(_error) => {
+        match take_place(&mut self.actors, actor, begun) {
+            Ok(()) => Ok(()),
+            Err(error) => {
                 self.is_short = true;
-                Err(AllocError)
+                Err(error)
             }
         }
     }
