@@ -5,7 +5,9 @@
 #            have to be the stored ones.
 # bench      times the built program (`make lake`) on a few scripts and on commands on folders: the seconds of the
 #            processor, or those of the clock, least of three runs, and rows a second. Start of the program and reading
-#            of the script are in it. It needs 100 MB where temporary files lie.
+#            of the script are in it. It needs 100 MB where temporary files lie. At last it has `scripts/bench/locked.sh`
+#            time 100,000 calls of a log that four threads share, beside the same calls in plain Rust, and prints the
+#            ratio, where rustc and the built program `seat_cases` are there.
 # schedules  runs the built program on random scripts of several actors, and compares what it is told with the model,
 #            and with what has to hold of batches and reads.
 set -euo pipefail
@@ -259,6 +261,8 @@ bench() {
     write_scripts
     time_scripts
     time_folders
+    echo
+    scripts/bench/locked.sh
 }
 
 case "${1:-}" in

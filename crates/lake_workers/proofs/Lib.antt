@@ -1,0 +1,4 @@
+mod Bearing
+mod Going
+mod Making
+mod Standing
