@@ -1,6 +1,6 @@
 //! The lock: a channel with room for one book, in which the book lies while nobody has it out, and its rule.
 
-ghost use Rattle.std.specs.Prelude.{◌≡◌, true};
+ghost use Rattle.std.specs.Prelude.{◌≡◌, None, true, IfSome};
 ghost use Rattle.crossbeam_channel.specs.Claims.{view, IsSeatAt};
 ghost use Rattle.crossbeam_channel.specs.Ends.{sends_on, receives_on, ruled_capacity};
 ghost use Rattle.log_hub.specs.Sights.{first_sight};
@@ -9,8 +9,12 @@ ghost use Rattle.log_hub.specs.Lock.{TakesOut, PutsBack, PutsBackUnused, MayPutB
 use crossbeam_channel::protocol::{Join, Lesson, Outcome, Protocol, Split};
 use crossbeam_channel::{RuledReceiver, RuledSender};
 use log_book::Book;
+use std::hint::spin_loop;
 use std::marker::Model;
 use std::sync::Wait;
+
+/// How often it is looked for the book before anybody waits for it.
+const LOOKS: u32 = 500;
 
 /// What a pass knows. No value of it is made.
 pub struct View;
@@ -115,12 +119,32 @@ pub fn take_out<R: Wait>(rt: &R, outlet: &Outlet, pass: &mut Pass) -> Book
     ensures seat { IsSeatAt (receives_on outlet.now) pass.new }
     ensures taken { TakesOut (view pass.old) result (view pass.new) }
 {
+    if let Some(book) = look_for(rt, outlet, pass) {
+        return book;
+    }
     for _ in rt.forever() {
         if let Ok(book) = outlet.recv_as::<Taking, R>(rt, pass) {
             return book;
         }
     }
     unreachable!()
+}
+
+/// Takes the book out, where it lies there at one of a few looks; a wait costs more than most calls take.
+fn look_for<R: Wait>(rt: &R, outlet: &Outlet, pass: &mut Pass) -> Option<Book>
+    requires seat { IsSeatAt (receives_on outlet.now) pass.old }
+    requires sits { (view pass.old).sits ≡ true }
+    ensures seat { IsSeatAt (receives_on outlet.now) pass.new }
+    ensures taken { IfSome result (λ book. TakesOut (view pass.old) book (view pass.new)) }
+    ensures same { result ≡ None → view pass.new ≡ view pass.old }
+{
+    for _ in 0..LOOKS {
+        if let Ok(book) = outlet.try_recv_as::<Taking, R>(rt, pass) {
+            return Some(book);
+        }
+        spin_loop();
+    }
+    None
 }
 
 /// Puts it back, with calls behind its history.
