@@ -26,7 +26,7 @@ use Rattle.log_hub.specs.Seats.{MayStand}
 use Rattle.log_hub.specs.Sights.{Seen}
 use Rattle.log_hub.specs.declared.receipt.Receipt.{Receipt}
 use Rattle.lake_workers.specs.Calls.{IsGivenFor, IsMade, MayBeMade}
-use Rattle.lake_workers.specs.Driving.{Adds, IsDriven, IsReceiptOf, Picks, commits_created, nothing}
+use Rattle.lake_workers.specs.Driving.{Adds, IsDriven, IsReceiptOf, Picks, TellsOfReceipt, commits_created, nothing}
 use Rattle.lake_workers.specs.declared.driven.Driven.{Driven}
 use Rattle.lake_workers.proofs.Making.{adds_more, adds_none, receipt_more}
 use Rattle.lake_workers.proofs.Bearing.{seen_bears}
@@ -180,8 +180,9 @@ module _ (before : Talk) (job : Job) (first now : Seen) (session : JobSession) (
       last_given (Some one) is = (heard r.taken r.asked reply, λ i. heard r.taken r.asked reply ++ (is.0 i, is.1 i) ∷ [])
 
   -- it ends
-  pub is_driven : AllMay → IsValidJob job → (driven : Driven) → driven.receipt ≡ receipt → Ends job before (heard r.taken r.asked reply) (end_view driven.end) → is_lost_outcome (end_view driven.end) ≡ false → IsDriven before job first now driven
-  is_driven law valid driven same ended told =
+  pub is_driven : AllMay → AllTellCreated → IsValidJob job → (driven : Driven) → driven.receipt ≡ receipt → Ends job before (heard r.taken r.asked reply) (end_view driven.end) → is_lost_outcome (end_view driven.end) ≡ false → IsDriven before job first now driven
+  is_driven law created valid driven same ended told =
+      let done : Does job before (heard r.taken r.asked reply) (tells (end_view driven.end)) = (ended, told ∙ sym (answered_last (heard r.taken r.asked reply) r.answered)) in
       record {
         talk = heard r.taken r.asked reply;
         made = r.made;
@@ -195,7 +196,11 @@ module _ (before : Talk) (job : Job) (first now : Seen) (session : JobSession) (
         stood = r.stood;
         log = log_behind first now r.made r.adds;
         earlier = λ objects may. earlier objects (r.stood objects may);
-        may = λ objects schema entries may holds. law objects schema entries job before (heard r.taken r.asked reply) (tells (end_view driven.end)) (bears objects schema entries may holds) valid
-            (ended, told ∙ sym (answered_last (heard r.taken r.asked reply) r.answered));
+        may = λ objects schema entries may holds. law objects schema entries job before (heard r.taken r.asked reply) (tells (end_view driven.end)) (bears objects schema entries may holds) valid done;
         created = subst (IsReceiptOf r.made now) (sym same) r.created;
+        tells_of = subst (λ (o : Option Receipt). TellsOfReceipt o (end_view driven.end)) (sym same) (of_receipt receipt r.given (created job before (heard r.taken r.asked reply) (tells (end_view driven.end)) r.calls done));
       }
+    where
+      of_receipt : (given : Option Receipt) → IsGivenLast given (heard r.taken r.asked reply) → TellsWhatWasCreated (heard r.taken r.asked reply) (tells (end_view driven.end)) → TellsOfReceipt given (end_view driven.end)
+      of_receipt None last so = tt
+      of_receipt (Some one) last so = so last.0 one.version one.commit.value.items last.1

@@ -12,9 +12,9 @@ use Rattle.log_hub.specs.Lock.{IsFrontOf}
 use Rattle.log_hub.specs.Seats.{HasSeen, MayStand, log_seen}
 use Rattle.log_hub.specs.Sights.{Seen}
 use Rattle.log_hub.specs.declared.receipt.Receipt.{Receipt}
-use Rattle.table_jobs.specs.Jobs.{Ends, Job, is_lost_outcome}
+use Rattle.table_jobs.specs.Jobs.{Ends, Job, Outcome, is_lost_outcome}
 use Rattle.table_jobs.specs.Sessions.{end_view}
-use Rattle.session_laws.specs.May.{May}
+use Rattle.session_laws.specs.May.{May, TellsOfCommit}
 use Rattle.session_laws.specs.Moves.{HasAsked, tells}
 use Rattle.lake_workers.specs.declared.driven.Driven.{Driven}
 
@@ -54,11 +54,17 @@ IsReceiptOf made new None = commits_created made ≡ []
 IsReceiptOf made new (Some receipt) =
     (commits_created made ≡ (receipt.version, receipt.commit.value.items) ∷ []) × (slice_get (log_seen new) receipt.version ≡ Some receipt.commit.value.items)
 
+-- where a receipt is given, the end tells that the commit of its version was put
+abbrev pub TellsOfReceipt : Option Receipt → Outcome → Type 0
+TellsOfReceipt None outcome = Unit {0}
+TellsOfReceipt (Some receipt) outcome = TellsOfCommit receipt.version (tells outcome)
+
 -- How the session of a job was driven, behind what was known before it: by some talk of its own, which stands in the calls
 -- that its seat made. Each of its calls its job asks for, and behind them it tells its end; no call was lost. A store that
 -- has what the seat has seen then bears the talk. One that may stand then might stand before; it bears what was known, too,
 -- and the job may tell its end of the table that it holds (a read's only where a store is shown as it was listed). The log
--- that the seat has seen only grew, and the receipt is that of the commit that was created, if one was.
+-- that the seat has seen only grew, and the receipt is that of the commit that was created, if one was, of which the end
+-- tells.
 pub record IsDriven (before : Talk) (job : Job) (old new : Seen) (driven : Driven) : Type 0 where
   pub talk : Talk
   pub made : History
@@ -74,3 +80,4 @@ pub record IsDriven (before : Talk) (job : Job) (old new : Seen) (driven : Drive
   pub may : (objects : Objects) (schema : Schema) (entries : List Entry) → MayStand objects new → Holds objects schema entries → May objects schema entries job before talk (tells (end_view driven.end))
   pub log : IsFrontOf (log_seen old) (log_seen new)
   pub created : IsReceiptOf made new driven.receipt
+  pub tells_of : TellsOfReceipt driven.receipt (end_view driven.end)

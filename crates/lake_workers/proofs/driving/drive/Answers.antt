@@ -20,7 +20,7 @@ returns-in-Done-clause-driven g c before fits earlier =
     let r = i.going before fits earlier in
     let job = job_of c.args.session.now in
     let ended = subst (λ (j : Job). Ends j before (heard r.taken r.asked (option_map told_view c.calls.reply)) (end_view c.in-Done.end)) i.job (c.in-Done.ensures.goes before r.taken r.asked r.fit) in
-    is_driven before job c.args.seat.now c.calls.seat c.calls.session (option_map told_view c.calls.reply) c.calls.receipt earlier r c.what_a_session_may.ensures.may c.requires.valid
+    is_driven before job c.args.seat.now c.calls.seat c.calls.session (option_map told_view c.calls.reply) c.calls.receipt earlier r c.what_a_session_may.ensures.may c.what_a_session_may.ensures.created c.requires.valid
     (record { end = c.in-Done.end; receipt = c.calls.receipt }) refl ended (c.in-Done.ensures.told ∙ i.kept)
 
 pub ask-answer-requires : goal.ask-answer-requires
