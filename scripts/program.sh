@@ -7,7 +7,8 @@
 #            processor, or those of the clock, least of three runs, and rows a second. Start of the program and reading
 #            of the script are in it. It needs 100 MB where temporary files lie. At last it has `scripts/bench/locked.sh`
 #            time 100,000 calls of a log that four threads share, beside the same calls in plain Rust, and prints the
-#            ratio, where rustc and the built program `seat_cases` are there.
+#            ratio, where rustc and the built program `seat_cases` are there; and `scripts/bench/worker.sh` 2,000, 8,000
+#            and 32,000 appends by a worker at a seat.
 # schedules  runs the built program on random scripts of several actors, and compares what it is told with the model,
 #            and with what has to hold of batches and reads.
 set -euo pipefail
@@ -263,6 +264,7 @@ bench() {
     time_folders
     echo
     scripts/bench/locked.sh
+    scripts/bench/worker.sh
 }
 
 case "${1:-}" in

@@ -1,5 +1,6 @@
 pub mod Closing
 pub mod Committing
+pub mod Preparing
 pub mod Refusals
 pub mod Requests
 pub mod RowsIn

@@ -8,6 +8,8 @@ mod committing;
 mod comparing;
 mod encoding;
 mod fault;
+mod prepared;
+mod preparing;
 mod request;
 mod rows_in;
 
@@ -17,6 +19,8 @@ pub use committing::{EncodedCommit, append_commit, data_file_name};
 pub use comparing::has_same;
 pub use encoding::file_of;
 pub use fault::SinkFault;
+pub use prepared::Prepared;
+pub use preparing::prepare;
 pub use request::{
     BatchRequest, CloseRequest, GREATEST_NUMBER, MOST_ID_BYTES, MOST_ROWS, check, check_id,
     close_behind, is_repeated, request_behind,

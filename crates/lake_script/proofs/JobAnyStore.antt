@@ -141,10 +141,10 @@ module _ (is_reliable : Type 0) (use_checkpoints : Bool) (tries : ℕ) (cache : 
       → TellsOver is_reliable use_checkpoints tries cache.loaded statement reply old new count later
   line_any (lines.create id at schema) ran = create_any is_reliable cache reply old new count later (record { id = id; at = at; schema = schema }) (end_view ran.end) ran.told ran.over
   line_any (lines.task (lines.append application number at items)) ran =
-      let job : SinkJob = record { application = application; task = appends number items; at = at; tries = tries; load = new_load use_checkpoints } in
+      let job : SinkJob = record { application = application; task = appends number items; at = at; tries = tries; load = new_load use_checkpoints; loads = true } in
       stream_any is_reliable cache reply old new count later job ran.end ran.told ran.driven
   line_any (lines.task (lines.close application at)) ran =
-      let job : SinkJob = record { application = application; task = closes; at = at; tries = tries; load = new_load use_checkpoints } in
+      let job : SinkJob = record { application = application; task = closes; at = at; tries = tries; load = new_load use_checkpoints; loads = true } in
       stream_any is_reliable cache reply old new count later job ran.end ran.told ran.driven
   line_any (lines.task lines.checkpoint) ran = checkpoint_any is_reliable cache reply old new count later (known_load cache.loaded (new_load use_checkpoints)) (end_view ran.end) ran.told ran.over
   line_any (lines.task (lines.tail max offset)) ran = tail_any max offset (offset_of offset) refl ran

@@ -1,5 +1,5 @@
 -- What lines ask for, as jobs.
-use Rattle.std.specs.Prelude.{ℕ, Bool, List, [], Option, None, Some, option_map}
+use Rattle.std.specs.Prelude.{ℕ, Bool, true, List, [], Option, None, Some, option_map}
 use Rattle.std.specs.Str.{IsUtf8}
 use Rattle.script_lines.specs.Lines as lines
 use Rattle.script_lines.specs.Lines.{Statement, Task}
@@ -11,8 +11,8 @@ use Rattle.table_jobs.specs.Views.{new_load}
 -- the job of a task, of which so many versions are tried; none, where the offset of a read can't be read
 abbrev pub job_of_task : (use_checkpoints : Bool) → (tries : ℕ) → Task → Option Job
 job_of_task use_checkpoints tries (lines.append application number at rows) =
-    Some (streams (record { application = application; task = appends number rows; at = at; tries = tries; load = new_load use_checkpoints }))
-job_of_task use_checkpoints tries (lines.close application at) = Some (streams (record { application = application; task = closes; at = at; tries = tries; load = new_load use_checkpoints }))
+    Some (streams (record { application = application; task = appends number rows; at = at; tries = tries; load = new_load use_checkpoints; loads = true }))
+job_of_task use_checkpoints tries (lines.close application at) = Some (streams (record { application = application; task = closes; at = at; tries = tries; load = new_load use_checkpoints; loads = true }))
 job_of_task use_checkpoints tries lines.checkpoint = Some (checkpoints (new_load use_checkpoints))
 job_of_task use_checkpoints tries (lines.tail max offset) = option_map (λ place. reads (record { place = place; max = max; use_checkpoints = use_checkpoints; known = [] })) (offset_of offset)
 

@@ -69,7 +69,7 @@ fn stream_job<'r>(
 ) -> Result<Option<Job<'r>>, AllocError>
     requires tries { 1 ≤ tries }
     requires at { at < 2 ^ 63 }
-    ensures job { IfOk result (λ found. option_map job_view found ≡ Some (streams (record { application = application.now; task = sinks.sink_task_view task.entry; at = at; tries = tries; load = new_load use_checkpoints }))) }
+    ensures job { IfOk result (λ found. option_map job_view found ≡ Some (streams (record { application = application.now; task = sinks.sink_task_view task.entry; at = at; tries = tries; load = new_load use_checkpoints; loads = true }))) }
     ensures text { IsUtf8 application.now }
 {
     let application = String::from_str(alloc, application)?;

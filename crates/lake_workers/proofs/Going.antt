@@ -1,5 +1,5 @@
 -- A session that is being driven: what it asks for may be made, and where it ends.
-use Rattle.std.proofs.Common.{◌≡◌, ◌∙◌, ℕ, Bool, false, true, List, [], ◌∷◌, ◌++◌, Option, None, Some, inl, inr, refl, sym, ap, subst}
+use Rattle.std.proofs.Common.{◌≡◌, ◌∙◌, ◌+◌, ◌≤◌, ℕ, Bool, false, true, List, [], ◌∷◌, ◌++◌, length, Option, None, Some, inl, inr, refl, sym, ap, subst, arith, append-nil, length-append}
 use Rattle.std.specs.Prelude.{◌||◌}
 use Rattle.store_core.specs.Names.{commit_version}
 use Rattle.store_core.specs.Objects.{Objects}
@@ -22,15 +22,15 @@ use Rattle.session_laws.specs.May.{BearsSession, May, MayAsk, TellsWhatWasCreate
 use Rattle.session_laws.specs.Moves.{Does, HasAsked, Move, asks, ends_lost, tells}
 use Rattle.log_book.specs.Histories.{History}
 use Rattle.log_book.specs.Making.{MayPutBeside}
-use Rattle.log_hub.specs.Seats.{MayStand}
+use Rattle.log_hub.specs.Seats.{MayStand, log_seen}
 use Rattle.log_hub.specs.Sights.{Seen}
 use Rattle.log_hub.specs.declared.receipt.Receipt.{Receipt}
 use Rattle.lake_workers.specs.Calls.{IsGivenFor, IsMade, MayBeMade}
-use Rattle.lake_workers.specs.Driving.{Adds, IsDriven, IsReceiptOf, Picks, TellsOfReceipt, commits_created, nothing}
+use Rattle.lake_workers.specs.Driving.{IsDriven, IsReceiptOf, TalksThrough, TellsOfReceipt, commits_created, no_read, nothing}
 use Rattle.lake_workers.specs.declared.driven.Driven.{Driven}
-use Rattle.lake_workers.proofs.Making.{adds_more, adds_none, receipt_more}
-use Rattle.lake_workers.proofs.Bearing.{seen_bears}
-use Rattle.lake_workers.proofs.Standing.{log_behind}
+use Rattle.lake_workers.proofs.Making.{mine_more, receipt_more}
+use Rattle.lake_workers.proofs.Showing.{was_shown}
+use Rattle.lake_workers.proofs.Talking.{stood_by, talk_borne, talk_grows}
 
 -- ---- talks in which no call is lost
 
@@ -56,17 +56,17 @@ abbrev pub IsGivenLast : Option Receipt → Talk → Type 0
 IsGivenLast None talk = Unit {0}
 IsGivenLast (Some receipt) talk = (front : Talk) × (talk ≡ front ++ (put_commit receipt.version receipt.commit.value.items, told_put Created) ∷ [])
 
--- So far a session was driven by a talk that stands in the calls that the seat made, up to an answer that it hasn't taken.
+-- So far a session was driven by a talk that was had by the calls which the seat made, up to an answer that it hasn't taken.
 pub record IsGoing (before : Talk) (job : Job) (first now : Seen) (session : JobSession) (reply : Option Told) (receipt : Option Receipt) : Type 0 where
   pub taken : Talk
   pub asked : Option Asked
   pub fit : SessionFits before session taken asked
   pub made : History
-  pub adds : Adds first made now
-  pub picked : Picks (heard taken asked reply) made
+  pub mine : now.mine ≡ first.mine ++ made
+  pub had : TalksThrough first (heard taken asked reply) now
+  pub few : length made + length (log_seen first) ≤ length (heard taken asked reply) + length (log_seen now)
   pub calls : HasAsked job before (heard taken asked reply)
   pub answered : has_lost (heard taken asked reply) ≡ false
-  pub stood : (objects : Objects) → MayStand objects now → MayStand objects first
   pub created : IsReceiptOf made now receipt
   pub given : IsGivenLast receipt (heard taken asked reply)
 
@@ -76,11 +76,11 @@ starts before job s session fits = record {
   asked = None;
   fit = fits;
   made = [];
-  adds = adds_none s;
-  picked = nothing;
+  mine = sym (append-nil s.mine);
+  had = nothing;
+  few = omega arith;
   calls = tt;
   answered = refl;
-  stood = λ objects may. may;
   created = refl;
   given = tt;
 }
@@ -125,14 +125,18 @@ abbrev pub AllTellCreated : Type 0
 AllTellCreated = (job : Job) (before talk : Talk) (move : Move) → HasAsked job before talk → Does job before talk move → TellsWhatWasCreated talk move
 
 module _ (before : Talk) (job : Job) (first now : Seen) (session : JobSession) (reply : Option Told) (receipt : Option Receipt) (earlier : (objects : Objects) → MayStand objects first → Bears objects before) (r : IsGoing before job first now session reply receipt) where
-  -- a store that may stand bears all that is known
+  -- a store that may stand might stand before
+  stood : (objects : Objects) → MayStand objects now → MayStand objects first
+  stood objects may = stood_by first now objects (talk_grows first now (heard r.taken r.asked reply) r.had) may
+
+  -- it bears all that is known
   bears : (objects : Objects) (schema : Schema) (entries : List Entry) → MayStand objects now → Holds objects schema entries → BearsSession objects schema entries job before (heard r.taken r.asked reply)
   bears objects schema entries may holds = record {
     sound = may.sound;
     bytes = may.bytes;
     holds = holds;
-    earlier = earlier objects (r.stood objects may);
-    borne = seen_bears first now r.made (heard r.taken r.asked reply) objects r.adds r.picked may.has;
+    earlier = earlier objects (stood objects may);
+    borne = talk_borne first now (heard r.taken r.asked reply) objects r.had may.has;
     asked = r.calls;
   }
 
@@ -166,11 +170,11 @@ module _ (before : Talk) (job : Job) (first now : Seen) (session : JobSession) (
     asked = Some asked;
     fit = fits;
     made = r.made ++ m.made;
-    adds = adds_more first now new r.made m.made r.adds m.adds;
-    picked = m.picked (heard r.taken r.asked reply) r.made r.picked;
+    mine = mine_more first now new r.made m.made r.mine m.mine;
+    had = m.had first now (heard r.taken r.asked reply) r.had no_read;
+    few = omega (arith, r.few, m.few, length-append r.made m.made, length-append (heard r.taken r.asked reply) ((asked, told) ∷ []));
     calls = asked_more (Asks job before) [] (heard r.taken r.asked reply) asked told r.calls wants;
     answered = answered_more (heard r.taken r.asked reply) asked told r.answered m.kept;
-    stood = λ objects may. r.stood objects (m.stood objects may);
     created = receipt_more r.made m.made new given (none_created law asked wants) m.created;
     given = last_given given m.given;
   }
@@ -186,17 +190,19 @@ module _ (before : Talk) (job : Job) (first now : Seen) (session : JobSession) (
       record {
         talk = heard r.taken r.asked reply;
         made = r.made;
-        adds = r.adds;
-        picked = r.picked;
+        mine = r.mine;
+        had = r.had;
+        few = r.few;
         asked = r.calls;
         ended = ended;
         answered = r.answered;
         told = told;
-        borne = λ objects has. seen_bears first now r.made (heard r.taken r.asked reply) objects r.adds r.picked has;
-        stood = r.stood;
-        log = log_behind first now r.made r.adds;
-        earlier = λ objects may. earlier objects (r.stood objects may);
+        borne = λ objects has. talk_borne first now (heard r.taken r.asked reply) objects r.had has;
+        stood = stood;
+        log = (talk_grows first now (heard r.taken r.asked reply) r.had).log;
+        earlier = λ objects may. earlier objects (stood objects may);
         may = λ objects schema entries may holds. law objects schema entries job before (heard r.taken r.asked reply) (tells (end_view driven.end)) (bears objects schema entries may holds) valid done;
+        shown = λ read is. was_shown read before first earlier now (heard r.taken r.asked reply) r.had (subst (λ (j : Job). HasAsked j before (heard r.taken r.asked reply)) is r.calls);
         created = subst (IsReceiptOf r.made now) (sym same) r.created;
         tells_of = subst (λ (o : Option Receipt). TellsOfReceipt o (end_view driven.end)) (sym same) (of_receipt receipt r.given (created job before (heard r.taken r.asked reply) (tells (end_view driven.end)) r.calls done));
       }

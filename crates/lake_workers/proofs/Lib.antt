@@ -1,4 +1,8 @@
 mod Bearing
 mod Going
+mod Knowing
 mod Making
+mod NewFiles
+mod Showing
 mod Standing
+mod Talking

@@ -1,13 +1,30 @@
-//! What a seat has seen, and the talk that its calls are: a law, a function that does nothing, whose contract it is.
+//! Laws of what a seat has seen. Each is a function that does nothing, whose contract is the law.
 
+ghost use Rattle.std.specs.Prelude.{◌≡◌};
 ghost use Rattle.store_core.specs.Objects.{Objects};
 ghost use Rattle.session_core.specs.Talks.{Bears, Talk};
-ghost use Rattle.log_book.specs.Histories.{History};
-ghost use Rattle.log_hub.specs.Seats.{HasSeen};
+ghost use Rattle.table_log.specs.declared.loading.Loaded.{Loaded};
+ghost use Rattle.log_hub.specs.Lock.{IsFrontOf};
+ghost use Rattle.log_hub.specs.Seats.{HasSeen, MayStand};
 ghost use Rattle.log_hub.specs.Sights.{Seen};
-ghost use Rattle.lake_workers.specs.Driving.{Adds, Picks};
+ghost use Rattle.table_jobs.specs.Jobs.{Job};
+ghost use Rattle.table_jobs.specs.Sessions.{end_view};
+ghost use Rattle.lake_workers.specs.Driving.{IsDriven, TalksThrough};
+ghost use Rattle.lake_workers.specs.Following.{IsKnownAt, Learns};
+ghost use Rattle.lake_workers.specs.declared.driven.Driven.{Driven};
 
-/// A store that has what a seat has seen bears each talk that stands in calls which the seat made last.
+/// A store that has what a seat has seen bears each talk that was had by calls which the seat made last. What may stand
+/// behind them might stand before; the seat's number is the same, the store at the hub's opening, too, and the front of
+/// the history that it had seen begins the one that it has seen then.
 pub fn what_a_seat_has_seen_bears_its_talk()
-    ensures { (old new : Seen) (made : History) (talk : Talk) (objects : Objects) → Adds old made new → Picks talk made → HasSeen objects new → Bears objects talk }
+    ensures borne { (old new : Seen) (talk : Talk) (objects : Objects) → TalksThrough old talk new → HasSeen objects new → Bears objects talk }
+    ensures stood { (old new : Seen) (talk : Talk) (objects : Objects) → TalksThrough old talk new → MayStand objects new → MayStand objects old }
+    ensures same { (old new : Seen) (talk : Talk) → TalksThrough old talk new → (new.number ≡ old.number) × (new.opening ≡ old.opening) × IsFrontOf old.front new.front }
+{}
+
+/// What a session that was driven through a seat tells of the log is known where the seat is then, and stays so behind
+/// each call that it makes: another session may begin with it.
+pub fn what_was_learnt_goes_before()
+    ensures learnt { (before : Talk) (job : Job) (old new : Seen) (driven : Driven) (known : Loaded) → IsDriven before job old new driven → Learns (end_view driven.end) known → IsKnownAt new known }
+    ensures stays { (old new : Seen) (talk : Talk) (known : Loaded) → IsKnownAt old known → TalksThrough old talk new → IsKnownAt new known }
 {}

@@ -14,7 +14,10 @@ use std::marker::Model;
 use std::sync::Wait;
 
 /// How often it is looked for the book before anybody waits for it.
-const LOOKS: u32 = 500;
+const LOOKS: u32 = 4_000;
+
+/// The most pauses between two looks.
+const MOST_PAUSES: u32 = 512;
 
 /// What a pass knows. No value of it is made.
 pub struct View;
@@ -130,7 +133,8 @@ pub fn take_out<R: Wait>(rt: &R, outlet: &Outlet, pass: &mut Pass) -> Book
     unreachable!()
 }
 
-/// Takes the book out, where it lies there at one of a few looks; a wait costs more than most calls take.
+/// Takes the book out, where it lies there at one of many looks; a wait costs more than most calls take. The looks are
+/// farther and farther apart: each one takes the channel's line of memory away from the thread that has the book out.
 fn look_for<R: Wait>(rt: &R, outlet: &Outlet, pass: &mut Pass) -> Option<Book>
     requires seat { IsSeatAt (receives_on outlet.now) pass.old }
     requires sits { (view pass.old).sits ≡ true }
@@ -138,13 +142,22 @@ fn look_for<R: Wait>(rt: &R, outlet: &Outlet, pass: &mut Pass) -> Option<Book>
     ensures taken { IfSome result (λ book. TakesOut (view pass.old) book (view pass.new)) }
     ensures same { result ≡ None → view pass.new ≡ view pass.old }
 {
+    let mut pauses = 1u32;
     for _ in 0..LOOKS {
         if let Ok(book) = outlet.try_recv_as::<Taking, R>(rt, pass) {
             return Some(book);
         }
-        spin_loop();
+        pause(pauses);
+        pauses = pauses.saturating_mul(2).min(MOST_PAUSES);
     }
     None
+}
+
+/// Lets so many pauses of a thread that spins pass.
+fn pause(times: u32) {
+    for _ in 0..times {
+        spin_loop();
+    }
 }
 
 /// Puts it back, with calls behind its history.

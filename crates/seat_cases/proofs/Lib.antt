@@ -1,3 +1,2 @@
-pub mod Beside
-pub mod Keeping
 pub mod Sharing
+mod Working

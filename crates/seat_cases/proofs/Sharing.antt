@@ -39,7 +39,7 @@ use Rattle.atomic_table.proofs.shared.Seat.TheSendSync as pass
 use Rattle.log_hub.specs.contracts.hub.Seat as Seat
 use Rattle.log_hub.specs.contracts.hub.Seat.TheInside as SeatInside
 use Rattle.log_hub.specs.contracts.receipt.Receipt as Receipt
-use Rattle.seat_cases.specs.contracts.holder.Holder as Holder
+use Rattle.case_seats.specs.contracts.holder.Holder as Holder
 use Rattle.seat_cases.specs.contracts.threads.Done as Done
 use Rattle.seat_cases.specs.contracts.threads.Task as Task
 use denote.Struct.Declared as Declared

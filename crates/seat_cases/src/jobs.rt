@@ -12,8 +12,8 @@ use table_jobs::{Job, JobEnd, run};
 /// How many versions a job tries at most.
 const TRIES: u64 = 16;
 
-/// The job that a line of a script asks for. `None` where it asks for none that a session can do. Fails where memory runs
-/// out.
+/// The job that a line of a script asks for. `None` where it asks for none that a session can do. Fails where memory
+/// runs out.
 fn asked_by(alloc: Global, line: &str) -> Result<Option<Job<'static>>, AllocError> {
     let mut scratch = Scratch::new(alloc);
     match reading_of(alloc, line.as_bytes(), &mut scratch, true)? {

@@ -1,7 +1,7 @@
 //! A program that runs a log that seats share, line by line of its standard input, and prints what is told.
 //!
-//! Words stand with one space between each two. Blank lines and those that begin with `#` are passed over. A line that is
-//! none of these is told as bad, by its number, and the program ends there with status 2:
+//! Words stand with one space between each two. Blank lines and those that begin with `#` are passed over. A line that
+//! is none of these is told as bad, by its number, and the program ends there with status 2:
 //!
 //! - `case NAME` begins a case, with a store in which nothing stands and no hub, and is told as it stands.
 //!
@@ -16,15 +16,21 @@
 //!
 //! - `K list`: the names that stand, one a line behind `names` and their count;
 //! - `K get NAME`: `bytes` and how many stand under a name, or `none`;
-//! - `K read`: the commit right behind the log that the seat has seen, `commit` and its count of bytes, `at` its version,
-//!   or `none`;
+//! - `K read`: the commit right behind the log that the seat has seen, `commit` and its count of bytes, `at` its
+//!   version, or `none`;
 //! - `K reads`: all of these up to the last one, and then as `K log`;
 //! - `K log`: `log` and how many commits the seat has seen;
 //! - `K file NAME HEX`: puts an object whose name is neither a commit's nor a checkpoint's: `created` or `exists`;
 //! - `K LINE`: drives the session of the job of a script's line (`create`, `append`, `close`, `checkpoint` or `tail`)
 //!   through the seat, and tells its reply; then `receipt` and the version, where it created a commit;
-//! - `threads K LINE | K LINE`: the same by two threads at once, each through its own seat. Their replies are told in the
-//!   order of their bytes, and then their receipts in that of their versions (`threads.rt`);
+//! - `K amid M C LINE | LINE`: the same for the first line, while the seat M does what the second one says in front of
+//!   the call number C of that session, from 0 on; what M is told comes first;
+//! - `K works ITEM | ITEM ..`: jobs of streams (`append`, `close`) one after the other, by what a worker at the seat
+//!   learns of the log, each told as by its own line; `prepared LINE` is an append whose file was prepared before, and
+//!   `M LINE` does what a line says at another seat in between (`workers.rt`);
+//! - `K appends N APP`: so many appends without rows by such a worker, numbered from 0 on; what the last one told;
+//! - `threads K LINE | K LINE`: the same as `K LINE` by two threads at once, each through its own seat. Their replies
+//!   are told in the order of their bytes, and then their receipts in that of their versions (`threads.rt`);
 //! - `calls N THREADS`: about so many calls, shared by so many threads, each at the seat of its number (`rounds.rt`);
 //! - `finish`: the hub ends, with all seats, from the last to the first, and all receipts: `log` and how many commits
 //!   stand, and for each seat `seat K calls` and how many calls the history has of it. The store stays (`endings.rt`);
@@ -33,14 +39,13 @@
 #![tactic(auto)]
 
 mod endings;
-mod holder;
 mod jobs;
 mod lines;
-mod names;
 mod rounds;
 mod seats;
 mod stores;
 mod threads;
+mod workers;
 
 use case_words::Transcript;
 use lines::Lines;

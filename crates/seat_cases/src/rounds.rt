@@ -1,8 +1,8 @@
 //! Calls that are made many times over, to see how long they take.
 
-use crate::holder::Holder;
 use crate::seats::Room;
 use crate::threads::{Work, add_task, tell_at_once};
+use case_seats::Holder;
 use case_words::Transcript;
 use log_hub::{Hub, Naming};
 use std::alloc::{AllocError, Global};

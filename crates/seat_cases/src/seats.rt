@@ -1,12 +1,13 @@
 //! The lines of a case at an open hub: what its seats ask for.
 
 use crate::endings::tell_finish;
-use crate::holder::Holder;
 use crate::jobs::{job_of, tell_end};
 use crate::lines::Lines;
 use crate::rounds::tell_rounds;
 use crate::stores::{bytes_of, tell_put};
 use crate::threads::tell_two;
+use crate::workers::{tell_amid, tell_appends, tell_works};
+use case_seats::Holder;
 use case_words::{Transcript, head};
 use log_hub::{Hub, Naming, Seat};
 use std::sync::Wait;
@@ -31,8 +32,8 @@ impl<J: Naming> Room<J> {
     }
 }
 
-/// Does what the lines say at a hub, up to the one that ends it, to a new case, or to a line that is bad. The store that
-/// is left: an empty one where the hub doesn't end.
+/// Does what the lines say at a hub, up to the one that ends it, to a new case, or to a line that is bad. The store
+/// that is left: an empty one where the hub doesn't end.
 pub fn tell_seats<J: Naming + Send + Sync, R: Threads + Wait + Sync>(
     rt: &R,
     room: Room<J>,
@@ -63,7 +64,7 @@ pub fn tell_seats<J: Naming + Send + Sync, R: Threads + Wait + Sync>(
 }
 
 /// Does what a line says at the seat of a number.
-fn tell_seat<J: Naming, R: Wait>(
+pub fn tell_seat<J: Naming, R: Wait>(
     rt: &R,
     room: &mut Room<J>,
     word: &str,
@@ -74,14 +75,32 @@ fn tell_seat<J: Naming, R: Wait>(
     if told.is_bad() {
         return;
     }
-    match room.places.get_mut(number as usize) {
+    let place = number as usize;
+    match head(line) {
+        ("works", items) => return tell_works(rt, room, place, items, told),
+        ("appends", words) => return tell_appends(rt, room, place, words, told),
+        ("amid", words) => return tell_amid(rt, room, place, words, told),
+        _ => {}
+    }
+    tell_at(rt, room, place, line, told);
+}
+
+/// Does what a line says at the seat of a place by itself.
+pub fn tell_at<J: Naming, R: Wait>(
+    rt: &R,
+    room: &mut Room<J>,
+    place: usize,
+    line: &str,
+    told: &mut Transcript,
+) {
+    match room.places.get_mut(place) {
         Some(Some(holder)) => tell_call(rt, &room.hub, holder, line, told),
         _ => told.misspelled(),
     }
 }
 
 /// Does what a line says at a seat.
-fn tell_call<J: Naming, R: Wait>(
+pub fn tell_call<J: Naming, R: Wait>(
     rt: &R,
     hub: &Hub<J>,
     holder: &mut Holder<J>,

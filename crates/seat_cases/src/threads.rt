@@ -1,8 +1,8 @@
 //! What threads do at once, each at a seat of its own.
 
-use crate::holder::Holder;
 use crate::rounds::{Rounds, make_rounds};
 use crate::seats::{Room, tell_job};
+use case_seats::Holder;
 use case_words::{Transcript, head};
 use log_hub::{Hub, Naming};
 use std::alloc::{AllocError, Global};

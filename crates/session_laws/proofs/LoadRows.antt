@@ -38,7 +38,7 @@ module _ (objects : Objects) (sound : IsSoundStore objects) (job : LoadJob) (bef
   loaded_row talk loaded borne ends =
       let front = ends.front objects known_before borne in
       let log = front_log objects sound loaded.next _ front.0 front.1.commits front.1.checkpoint front.1.read in
-      let next : loaded.next ≡ next_version talk = ends.next ∙ sym (listed_next talk ends.names ends.listed) in
+      let next : loaded.next ≡ next_version talk = ends.next ∙ sym (listed_next 0 talk ends.names ends.listed) in
       record {
         next = next;
         log = log.0;
@@ -57,7 +57,7 @@ module _ (objects : Objects) (sound : IsSoundStore objects) (job : LoadJob) (bef
   pub load_tells : (talk : Talk) (result : Result Loaded LogFault) → Bears objects talk → AllAsked (LoadAsks job before) [] talk → LoadEnds job before talk result → is_lost_load result ≡ ends_lost talk → MayTellOfLoad objects talk result
   load_tells talk (Ok loaded) borne asked ends lost = loaded_row talk loaded borne ends
   load_tells talk (Err (load_faults.BadLog version)) borne asked ends lost =
-      load_lacks objects sound talk borne job before version (λ front found talked. asked_last (LoadAsks job before) [] front (get_object (commit_name version), told_object found) (subst (AllAsked (LoadAsks job before) []) talked asked)) ends
+      load_lacks objects sound talk borne 0 job before version (λ front found talked. asked_last (LoadAsks job before) [] front (get_object (commit_name version), told_object found) (subst (AllAsked (LoadAsks job before) []) talked asked)) ends
   load_tells talk (Err load_faults.Lost) borne asked ends lost = sym lost
   load_tells talk (Err load_faults.Memory) borne asked ends lost = tt
 
@@ -76,11 +76,11 @@ module _ (objects : Objects) (sound : IsSoundStore objects) (job : LoadJob) (bef
   put_row talk version known borne ends =
       let told = ends.told in
       let both = told_stands objects job before talk version ends.put borne told in
-      let same : next_version talk ≡ next_version told.front = ap next_version told.talked ∙ file_next told.front told.name told.bytes (told_put ends.put) in
+      let same : next_version talk ≡ next_version told.front = ap next_version told.talked ∙ file_next 0 told.front told.name told.bytes (told_put ends.put) in
       let row = loaded_row told.front ends.loaded both.0 ends.behind in
       let kept = known_same job.use_checkpoints ends.put told.name ends.loaded known ends.kept in
       let puts = told.puts.front objects known_before both.0 in
-      let newest : suc version ≡ next_version told.front = told.puts.newest ∙ sym (listed_next told.front told.puts.names told.puts.listed) in
+      let newest : suc version ≡ next_version told.front = told.puts.newest ∙ sym (listed_next 0 told.front told.puts.names told.puts.listed) in
       let log = front_log objects sound (suc version) puts.from puts.r puts.commits puts.checkpoint puts.read in
       let one : log.0 ≡ row.log = one_log objects log.0 row.log (sym log.1 ∙ (ap (λ (n : ℕ). commits_in 0 (versions_from n 0 objects)) newest ∙ row.stand.1)) in
       let of_table : IsTableId log.0 puts.is.id = record { meta_data = puts.is.of_table.meta_data; newest = sym (same_values puts.commits log.0 log.2).metadata ∙ puts.is.of_table.newest; is = puts.is.of_table.is } in
@@ -101,19 +101,19 @@ module _ (objects : Objects) (sound : IsSoundStore objects) (job : LoadJob) (bef
       one_log store one other is = cc
 
   -- the commits that were listed
-  behind_list : (talk : Talk) (names : List (List ℕ)) (log : List (List Action)) → 0 < count_in names → HasListed talk names → commits_in 0 (versions_from (count_in names) 0 objects) ≡ Ok log → IsLogBehind objects talk log
+  behind_list : (talk : Talk) (names : List (List ℕ)) (log : List (List Action)) → 0 < count_in names → HasListed talk names → commits_in 0 (versions_from (count_in names) 0 objects) ≡ Ok log → IsLogBehind objects (next_version talk) log
   behind_list talk names log some listed read =
-      let next : count_in names ≡ next_version talk = sym (listed_next talk names listed) in
+      let next : count_in names ≡ next_version talk = sym (listed_next 0 talk names listed) in
       subst (λ (n : ℕ). (0 < n) × (commits_in 0 (versions_from n 0 objects) ≡ Ok log)) next (some, read)
 
   -- they have none that may be put
-  unsupported_row : (talk : Talk) (fault : SupportFault) → Bears objects talk → IsRefusedBehind job before talk (checkpoint_faults.Unsupported fault) → (log : List (List Action)) × IsLogBehind objects talk log × (checkpointable log ≡ Err (fault_of fault))
+  unsupported_row : (talk : Talk) (fault : SupportFault) → Bears objects talk → IsRefusedBehind job before talk (checkpoint_faults.Unsupported fault) → (log : List (List Action)) × IsLogBehind objects (next_version talk) log × (checkpointable log ≡ Err (fault_of fault))
   unsupported_row talk fault borne ends =
       let front = ends.front objects known_before borne in
       let log = front_log objects sound (count_in ends.names) _ front.r front.commits front.checkpoint front.read in
       (log.0, behind_list talk ends.names log.0 ends.some ends.listed log.1, sym (same_values front.commits log.0 log.2).checkpointed ∙ front.refused)
 
-  large_row : (talk : Talk) → Bears objects talk → IsRefusedBehind job before talk checkpoint_faults.TooLarge → (log : List (List Action)) × IsLogBehind objects talk log × IsTooLargeCheckpoint (next_version talk) log
+  large_row : (talk : Talk) → Bears objects talk → IsRefusedBehind job before talk checkpoint_faults.TooLarge → (log : List (List Action)) × IsLogBehind objects (next_version talk) log × IsTooLargeCheckpoint (next_version talk) log
   large_row talk borne ends =
       let front = ends.front objects known_before borne in
       let log = front_log objects sound (count_in ends.names) _ front.r front.commits front.checkpoint front.read in
@@ -122,7 +122,7 @@ module _ (objects : Objects) (sound : IsSoundStore objects) (job : LoadJob) (bef
         behind_list talk ends.names log.0 ends.some ends.listed log.1,
         record {
           version = large.0;
-          last = large.2 ∙ sym (listed_next talk ends.names ends.listed);
+          last = large.2 ∙ sym (listed_next 0 talk ends.names ends.listed);
           bytes = large.1;
           large = record {
             supported = sym (same_values front.commits log.0 log.2).checkpointed ∙ large.3.supported;
@@ -137,7 +137,7 @@ module _ (objects : Objects) (sound : IsSoundStore objects) (job : LoadJob) (bef
       → MayTellOfCheckpoint objects talk known answer
   checkpoint_tells talk known (Ok version) borne asked ends lost = put_row talk version known borne ends
   checkpoint_tells talk known (Err (checkpoint_faults.BadLog version)) borne asked ends lost =
-      load_lacks objects sound talk borne job before version (λ front found talked. asked_last (CheckpointAsks job before) [] front (get_object (commit_name version), told_object found) (subst (AllAsked (CheckpointAsks job before) []) talked asked)) ends
+      load_lacks objects sound talk borne 0 job before version (λ front found talked. asked_last (CheckpointAsks job before) [] front (get_object (commit_name version), told_object found) (subst (AllAsked (CheckpointAsks job before) []) talked asked)) ends
   checkpoint_tells talk known (Err (checkpoint_faults.Unsupported fault)) borne asked ends lost =
       let row = unsupported_row talk fault borne ends.0 in
       (loaded_row talk known borne ends.1, row.0, row.1, row.2)

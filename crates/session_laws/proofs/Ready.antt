@@ -20,7 +20,7 @@ use Rattle.commit_core.proofs.Callers.{log_open}
 use Rattle.batch_core.specs.Committing.{batch_file_name}
 use Rattle.batch_core.specs.Requests.{SinkRequest, numbered_behind, request_behind}
 use Rattle.batch_core.specs.RowsIn.{rows_from}
-use Rattle.sink_core.specs.SinkSessions.{HoldsOf, Point, PutsFile, Reaches, Readied, Readies, SinkJob, SinkTask, anew, appends, asked_again, asked_of, closes, conflicts, file_of, goes_on, loaded, ready, rules, readied_by, readies, stood}
+use Rattle.sink_core.specs.SinkSessions.{HoldsOf, Point, PutsFile, Reaches, Readied, Readies, SinkJob, SinkTask, anew, appends, asked_again, asked_of, closes, conflicts, file_of, goes_on, knew, loaded, ready, rules, readied_by, readies, stood}
 use Rattle.sink_core.proofs.SinkTalks.{file_stands}
 use Rattle.session_laws.specs.Rows.{IsBatchOf, name_of}
 use Rattle.session_laws.proofs.Files.{spelled_file}
@@ -37,7 +37,8 @@ pub record IsReadyFor (job : SinkJob) (known : Loaded) (readied : Readied) : Typ
   pub rows : request.rows ≡ readied.rows
 
 pub ready_for : (job : SinkJob) (before talk : Talk) (known : Loaded) (tries : ℕ) (readied : Readied) (point : Point) → point ≡ ready readied → Reaches job before talk known tries point → IsReadyFor job known readied
-ready_for job before talk known tries readied point is (loaded _ _ fine load) = absurd cc
+ready_for job before talk known tries readied point is (loaded _ _ fine loads load) = absurd cc
+ready_for job before talk known tries readied point is (knew _ fine unloaded knows some) = absurd cc
 ready_for job before talk known tries readied point is (readies front calls _ _ _ request size reaches asked new readied_so reads talked) =
     let same : readied_by request size ≡ readied = cc in
     record { request = request; asked = asked; new = new; schema = ap (λ (s : Readied). s.schema) same; rows = ap (λ (s : Readied). s.rows) same }
@@ -53,8 +54,10 @@ puts_within name request calls size (stood file bytes written same) = written.is
 
 readied_within : (job : SinkJob) (before : Talk) (number : ℕ) (items : Items) → job.task ≡ appends number items → (talk : Talk) (known : Loaded) (tries : ℕ) (point : Point) (readied : Readied) → (point ≡ ready readied) ⊎ (point ≡ rules (Some readied))
     → Reaches job before talk known tries point → IsWithinLimits readied.schema
-readied_within job before number items task talk known tries point readied (inl is) (loaded _ _ fine load) = absurd cc
-readied_within job before number items task talk known tries point readied (inr is) (loaded _ _ fine load) = absurd cc
+readied_within job before number items task talk known tries point readied (inl is) (loaded _ _ fine loads load) = absurd cc
+readied_within job before number items task talk known tries point readied (inr is) (loaded _ _ fine loads load) = absurd cc
+readied_within job before number items task talk known tries point readied (inl is) (knew _ fine unloaded knows some) = absurd cc
+readied_within job before number items task talk known tries point readied (inr is) (knew _ fine unloaded knows some) = absurd cc
 readied_within job before number items task talk known tries point readied (inl is) (readies front calls _ _ _ request size reaches asked new readied_so reads talked) =
     let same : readied_by request size ≡ readied = cc in
     subst (λ (s : Readied). IsWithinLimits s.schema) same

@@ -27,7 +27,7 @@ use Rattle.sink_core.specs.SinkSessions.{AnswerEnds, LooksAt, SinkAsks, SinkJob,
 use Rattle.sink_core.specs.declared.sink_state.SinkOutcome.{SinkOutcome}
 use Rattle.sink_core.specs.declared.sink_state.SinkOutcome.TheVariants.{Already, AlreadyClosed, Closed, Committed}
 use Rattle.sink_core.proofs.SinkCounts.{all_tried}
-use Rattle.session_laws.specs.Rows.{LacksCommit, MayTellOfStream, next_version}
+use Rattle.session_laws.specs.Rows.{LacksCommit, MayTellOfStream, next_of_stream}
 use Rattle.session_laws.proofs.NextVersions.{in_race_next}
 use Rattle.session_laws.proofs.Lacks.{begins_with_list, listed_front, load_lacks, winner_lacks}
 use Rattle.session_laws.proofs.Ready.{file_named}
@@ -66,7 +66,7 @@ module _ (job : SinkJob) (before : Talk) where
 
   -- behind the names that were listed, and gets alone, a commit is asked for by the load
   load_asked : (front : Talk) (names : List (List ℕ)) (version : ℕ) → HasListed front names → SinkAsks job before front (get_object (commit_name version)) → LoadAsks job.load before front (get_object (commit_name version))
-  load_asked front listed_names version listed (fine, inl asks) = asks
+  load_asked front listed_names version listed (fine, inl asks) = asks.1
   load_asked front listed_names version listed (fine, inr (inl (request, looks))) =
       let file = looks_at_file front (commit_name version) request looks in
       absurd (other_name version job.application file.0 file.1)
@@ -81,9 +81,9 @@ module _ (job : SinkJob) (before : Talk) where
 -- ---- a commit that is lacked
 
 module _ (objects : Objects) (sound : IsSoundStore objects) (job : SinkJob) (before talk : Talk) (borne : Bears objects talk) (asked : AllAsked (SinkAsks job before) [] talk) where
-  pub lacks_tells : (version : ℕ) → AnswerEnds job before talk (Err (faults.BadLog version)) → LacksCommit talk version
+  pub lacks_tells : (version : ℕ) → AnswerEnds job before talk (Err (faults.BadLog version)) → LacksCommit (next_of_stream job talk) talk version
   lacks_tells version (inl bad) =
-      load_lacks objects sound talk borne job.load before version (λ front found talked.
+      load_lacks objects sound talk borne (next_of_stream job []) job.load before version (λ front found talked.
       let last = asked_last (SinkAsks job before) [] front (get_object (commit_name version), told_object found) (subst (AllAsked (SinkAsks job before) []) talked asked) in
       load_asked job before front bad.1.names version (listed_front talk front bad.1.names (commit_name version) found bad.1.listed talked) last) bad.1
   lacks_tells version (inr r) =
@@ -96,8 +96,8 @@ module _ (objects : Objects) (sound : IsSoundStore objects) (job : SinkJob) (bef
       let whole : talk ≡ (r.front ++ met) ++ (first ++ last) = r.talked ∙ (ap (λ (t : Talk). r.front ++ t) comes.told ∙ sym (append_assoc r.front met (first ++ last))) in
       let parts : talk ≡ ((r.front ++ met) ++ first) ++ last = whole ∙ sym (append_assoc (r.front ++ met) first last) in
       let asks = asked_last (SinkAsks job before) [] (r.front ++ met) (put_commit version put.bytes, told_put Exists) (asked_front (SinkAsks job before) [] ((r.front ++ met) ++ first) last (subst (AllAsked (SinkAsks job before) []) parts asked)) in
-      let next : next_version talk ≡ suc version = in_race_next job before talk _ r version r.holds.0 (got_told put version (told_object found)) comes in
-      winner_lacks objects sound talk borne version ((r.front ++ met) ++ first) found asks.1.holds.4 (omega (arith, next)) parts r.holds.3
+      let next : next_of_stream job talk ≡ suc version = in_race_next job before talk _ r version r.holds.0 (got_told put version (told_object found)) comes in
+      winner_lacks objects sound talk borne (next_of_stream job talk) version ((r.front ++ met) ++ first) found asks.1.holds.4 (omega (arith, next)) parts r.holds.3
 
 -- ---- whatever is told
 

@@ -30,7 +30,7 @@ use Rattle.batch_core.specs.Closing.{close_candidate, close_actions}
 use Rattle.batch_core.specs.Committing.{append_candidate, appending, batch_actions}
 use Rattle.sink_core.specs.SinkSessions.{Reaches, Readied, SinkAsks, SinkJob, SinkTask, commit_actions, appends, candidate_of_job, closes, race_of, ready, rules}
 use Rattle.sink_core.proofs.ReachLemmas.{reaches_reads}
-use Rattle.session_laws.specs.Rows.{IsBatchOf, IsJobCommit, IsJobFile, MayPutNext, next_version}
+use Rattle.session_laws.specs.Rows.{IsBatchOf, IsJobCommit, IsJobFile, MayPutNext, next_of_stream}
 use Rattle.session_laws.proofs.Fronts.{reached_front}
 use Rattle.session_laws.proofs.NextVersions.{in_race_next}
 use Rattle.session_laws.proofs.TableAnswers.{written_front}
@@ -163,7 +163,7 @@ module _ (objects : Objects) (schema : Schema) (entries : List Entry) (sound : I
   -- its commit, as the version that comes next
   pub puts_commit : ((put : CommitJob) (race : Talk) (version : ℕ) (bytes : List ℕ) → IsLawfulStore objects → Bears objects race → IsAdmissible objects put.version put.bytes → IsCommit put.bytes put.candidate.actions → ReadsItsOwn put.candidate
       → CommitAsks put before race (put_commit version bytes) → IsAdmissible objects version bytes) → IsUtf8 job.application
-      → (talk : Talk) (version : ℕ) (bytes : List ℕ) → Bears objects talk → SinkAsks job before talk (put_commit version bytes) → MayPutNext objects talk version bytes × IsJobCommit objects schema job bytes
+      → (talk : Talk) (version : ℕ) (bytes : List ℕ) → Bears objects talk → SinkAsks job before talk (put_commit version bytes) → MayPutNext objects (next_of_stream job talk) version bytes × IsJobCommit objects schema job bytes
   puts_commit stays text talk version bytes borne asks =
       let r = asks.1 in
       let put = race_of job r.readied r.known.next r.tries in
@@ -175,5 +175,5 @@ module _ (objects : Objects) (schema : Schema) (entries : List Entry) (sound : I
       let reads = reaches_reads job before r.front r.known r.tries (ready r.readied) r.readied (inl refl) r.reaches in
       let lawful : IsLawfulStore objects = record { schema = sound.table.schema; entries = sound.table.entries; holds = sound.table.holds; lawful = sound.table.lawful } in
       let admissible = stays put r.race version bytes lawful (bears_end objects r.front r.race both) first (candidate_reads job r.readied reads) (own_candidate job r.readied) r.holds in
-      let next : version ≡ next_version talk = sym (in_race_next job before talk _ r version r.holds.0 [] comes) in
+      let next : version ≡ next_of_stream job talk = sym (in_race_next job before talk _ r version r.holds.0 [] comes) in
       ((admissible, next), subst (IsJobCommit objects schema job) (sym r.holds.2) (own_commit text r.front own_front r.known r.tries r.readied r.reaches))

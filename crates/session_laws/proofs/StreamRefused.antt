@@ -38,7 +38,7 @@ use Rattle.batch_core.specs.RowsIn.{rows_from}
 use Rattle.batch_core.proofs.Callers.{IsOfNumber, asked_parts, close_parts, reads_as_file, refused_parts}
 use Rattle.sink_core.specs.SinkSessions as sinks
 use Rattle.sink_core.specs.SinkSessions.{AnswerEnds, HasLooked, HoldsOf, LooksAt, Point, Reaches, SinkJob, SinkTask, appends, asked_of, closes, file_of, race_of, ready, repeated, rules, tell_metadata}
-use Rattle.session_laws.specs.Rows.{GotNone, HasLargeFile, HasOtherFile, IsBatchOf, LosesCommit, RulesSay, TellsOfBatch, name_of, next_version}
+use Rattle.session_laws.specs.Rows.{GotNone, HasLargeFile, HasOtherFile, IsBatchOf, LosesCommit, RulesSay, TellsOfBatch, name_of, next_of_stream}
 use Rattle.session_laws.proofs.Entries.{batch_file}
 use Rattle.session_laws.proofs.Fronts.{IsKnownFront, reached_front}
 use Rattle.session_laws.proofs.NextVersions.{in_race_next, reaches_next, reaches_some}
@@ -76,7 +76,7 @@ module _ (objects : Objects) (schema : Schema) (entries : List Entry) (sound : I
   abbrev known_here : (known : Loaded) (tries : ℕ) (point : Point) → Reaches job before talk known tries point → IsKnownFront objects schema entries known
   known_here known tries point reaches = reached_front objects schema entries sound holds job before talk known tries point known_before borne reaches
 
-  -- the rules say it of the commits that were listed and of the winners that were read
+  -- the rules say it of the commits that were listed, or known, and of the winners that were read
   pub ruled : (known : Loaded) (tries : ℕ) (point : Point) (reaches : Reaches job before talk known tries point) (said : Result SinkRequest SinkRefusal) → HoldsOf known (λ log. asked_of job known.next log ≡ said) → RulesSay objects job talk said
   ruled known tries point reaches said says =
       let here = known_here known tries point reaches in
@@ -197,10 +197,10 @@ module _ (objects : Objects) (schema : Schema) (entries : List Entry) (sound : I
   -- ---- its talk
 
   -- no version is left
-  pub too_large_tells : AnswerEnds job before talk (Err faults.TooLarge) → (sinks.fine job ≡ Err (sink_refusal_view faults.TooLarge)) ⊎ (greatest_version < next_version talk)
+  pub too_large_tells : AnswerEnds job before talk (Err faults.TooLarge) → (sinks.fine job ≡ Err (sink_refusal_view faults.TooLarge)) ⊎ (greatest_version < next_of_stream job talk)
   too_large_tells (inl large) = inl large.1
   too_large_tells (inr r) =
-      let next : next_version talk ≡ r.holds.0 = in_race_next job before talk _ r r.holds.0 r.holds.1 [] r.holds.2 in
+      let next : next_of_stream job talk ≡ r.holds.0 = in_race_next job before talk _ r r.holds.0 r.holds.1 [] r.holds.2 in
       inr (subst (λ (n : ℕ). greatest_version < n) (sym next) r.holds.4)
 
   -- the put of its commit was lost
@@ -212,6 +212,6 @@ module _ (objects : Objects) (schema : Schema) (entries : List Entry) (sound : I
       (r.front ++ met, put.bytes, r.talked ∙ (ap (λ (t : Talk). r.front ++ t) comes.told ∙ sym (append_assoc r.front met (put_told_at put version told_lost))))
 
   -- the version that it tells at last is the one in front of the next
-  pub contended_next : (newest : ℕ) → AnswerEnds job before talk (Err (faults.Contended newest)) → next_version talk ≡ suc newest
+  pub contended_next : (newest : ℕ) → AnswerEnds job before talk (Err (faults.Contended newest)) → next_of_stream job talk ≡ suc newest
   contended_next newest (inl (known, readied, reaches, next)) = sym (reaches_next job before talk known 0 (ready readied) reaches) ∙ next
   contended_next newest (inr r) = in_race_next job before talk _ r (suc newest) _ [] r.holds.1.0

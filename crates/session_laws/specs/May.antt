@@ -12,7 +12,7 @@ use Rattle.commit_core.specs.SoundStores.{IsSoundStore}
 use Rattle.commit_core.specs.CreateSessions.{IsCreationOf, MayTellOfCreation}
 use Rattle.sink_core.specs.SinkLaws.{TellsCommit}
 use Rattle.sink_core.specs.SinkSessions.{IsFineJob}
-use Rattle.session_laws.specs.Rows.{IsCheckpointPut, IsJobCommit, IsJobFile, MayPutNext, MayTellOfCheckpoint, MayTellOfLoad, MayTellOfRead, MayTellOfStream}
+use Rattle.session_laws.specs.Rows.{IsCheckpointPut, IsJobCommit, IsJobFile, MayPutNext, MayTellOfCheckpoint, MayTellOfLoad, MayTellOfRead, MayTellOfStream, next_of_stream, next_version}
 use Rattle.table_jobs.specs.Jobs.{Job, Outcome, checkpoint, checkpoints, creates, creation, load, loads, read, reads, stream, streams}
 use Rattle.session_laws.specs.Moves.{HasAsked, Move, asks, tells}
 
@@ -37,11 +37,11 @@ MayAsk objects schema job talk list_names = Unit {0}
 MayAsk objects schema job talk (get_object name) = Unit {0}
 MayAsk objects schema (streams job) talk (put_file name bytes) = IsFineJob job × IsJobFile schema job name bytes × IsFreeIn objects name
 MayAsk objects schema (checkpoints job) talk (put_file name bytes) = IsCheckpointPut objects name bytes
-MayAsk objects schema (streams job) talk (put_commit version bytes) = IsFineJob job × MayPutNext objects talk version bytes × IsJobCommit objects schema job bytes
-MayAsk objects schema (creates job) talk (put_commit version bytes) = MayPutNext objects talk version bytes × IsCreationOf job bytes
+MayAsk objects schema (streams job) talk (put_commit version bytes) = IsFineJob job × MayPutNext objects (next_of_stream job talk) version bytes × IsJobCommit objects schema job bytes
+MayAsk objects schema (creates job) talk (put_commit version bytes) = MayPutNext objects (next_version talk) version bytes × IsCreationOf job bytes
 MayAsk objects schema job talk asked = ⊥
 
--- What it tells is so of the store, of what was known before (of a read alone), or of its talk.
+-- What it tells is so of the store, of what was known before (of a read, and of a stream that loads nothing), or of its talk.
 abbrev pub MayTell : Objects → Schema → List Entry → Job → (before talk : Talk) → Outcome → Type 0
 MayTell objects schema entries (creates job) before talk (creation result) = MayTellOfCreation objects job talk result
 MayTell objects schema entries (loads job) before talk (load result) = MayTellOfLoad objects talk result

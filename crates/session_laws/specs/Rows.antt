@@ -1,6 +1,6 @@
 -- What a session may ask for and tell in a store that bears its talk, call by call and outcome by outcome. The store holds the table of a
 -- schema with its entries.
-use Rattle.std.specs.Prelude.{◌≡◌, ◌⊎◌, ℕ, suc, ◌<◌, List, [], ◌∷◌, ◌++◌, length, take, true, false, Some, None, Result, Ok, Err, IsSome, string_bytes}
+use Rattle.std.specs.Prelude.{◌≡◌, ◌⊎◌, ℕ, suc, ◌<◌, if◌then◌else◌, List, [], ◌∷◌, ◌++◌, length, take, true, false, Some, None, Result, Ok, Err, IsSome, string_bytes}
 use Rattle.serde_json.specs.Data.{Items}
 use Rattle.store_core.specs.Objects.{HasObjectsOf, Objects, names_of, object_at}
 use Rattle.store_core.specs.declared.store.Put.TheVariants.{Exists}
@@ -57,7 +57,7 @@ use Rattle.session_laws.specs.Moves.{ends_lost}
 -- ---- talks
 
 -- The version behind all that a talk tells of: behind the last one that the put of a commit found taken, and before any was behind the
--- newest that was listed. A session lists the names first.
+-- newest that was listed. A session that loads the log lists the names first.
 abbrev pub next_after_talk : (next : ℕ) → Talk → ℕ
 next_after_talk next [] = next
 next_after_talk next ((list_names, told_names names) ∷ talk) = next_after_talk (count_in names) talk
@@ -67,6 +67,10 @@ next_after_talk next (call ∷ talk) = next_after_talk next talk
 -- the version that comes next by a talk; 0 where nothing was listed
 abbrev pub next_version : Talk → ℕ
 next_version talk = next_after_talk 0 talk
+
+-- The one that comes next by the talk of a stream's session: where that loads nothing, it goes on behind the versions that it knows.
+abbrev pub next_of_stream : SinkJob → Talk → ℕ
+next_of_stream job talk = next_after_talk (if job.loads then 0 else job.load.known) talk
 
 -- the put of a version's commit was lost at last
 abbrev pub LosesCommit : Talk → (version : ℕ) → Type 0
@@ -83,23 +87,23 @@ ListsFirst talk names = (rest : Talk) × (talk ≡ (list_names, told_names names
 -- Why a version's commit is lacked: none was listed, and it is version 0; or it is below the one that comes next, and was got at last,
 -- and nothing was there; or it isn't above the newest that was listed, and not all up to that were. A sound store holds what it lists,
 -- with all versions below the newest, and what it found taken, and so gives no reason for the latter two where it answers what stands.
-pub data LacksCommit (talk : Talk) (version : ℕ) : Type 0 where
-  none_listed : (names : List (List ℕ)) → ListsFirst talk names → count_in names ≡ 0 → version ≡ 0 → LacksCommit talk version
-  got_none : version < next_version talk → GotNone talk (commit_name version) → LacksCommit talk version
-  not_listed : (names : List (List ℕ)) → ListsFirst talk names → version < count_in names → HasGap names → LacksCommit talk version
+pub data LacksCommit (next : ℕ) (talk : Talk) (version : ℕ) : Type 0 where
+  none_listed : (names : List (List ℕ)) → ListsFirst talk names → count_in names ≡ 0 → version ≡ 0 → LacksCommit next talk version
+  got_none : version < next → GotNone talk (commit_name version) → LacksCommit next talk version
+  not_listed : (names : List (List ℕ)) → ListsFirst talk names → version < count_in names → HasGap names → LacksCommit next talk version
 
 -- ---- logs
 
--- The commits of the versions below the one that comes next by a talk, which all stand, one at least: those that were listed, and the
--- winners that were found.
-abbrev pub IsLogBehind : Objects → Talk → List (List Action) → Type 0
-IsLogBehind objects talk log = (0 < next_version talk) × (commits_in 0 (versions_from (next_version talk) 0 objects) ≡ Ok log)
+-- The commits of the versions below the one that comes next, which all stand, one at least: those that were listed, and the winners
+-- that were found.
+abbrev pub IsLogBehind : Objects → (next : ℕ) → List (List Action) → Type 0
+IsLogBehind objects next log = (0 < next) × (commits_in 0 (versions_from next 0 objects) ≡ Ok log)
 
 -- what was loaded is the snapshot of these commits, and the version behind them
 pub record IsLoadedBehind (objects : Objects) (talk : Talk) (loaded : Loaded) : Type 0 where
   pub next : loaded.next ≡ next_version talk
   pub log : List (List Action)
-  pub stand : IsLogBehind objects talk log
+  pub stand : IsLogBehind objects (next_version talk) log
   pub snapshot : IsSnapshotOf log loaded.snapshot
 
 -- ---- what is put
@@ -133,8 +137,8 @@ IsJobCommit objects schema job bytes = by_task job.task
     by_task closes = IsTextOfActions bytes (close_actions job.application job.at)
 
 -- a commit may be put as the version that comes next
-abbrev pub MayPutNext : Objects → Talk → (version : ℕ) (bytes : List ℕ) → Type 0
-MayPutNext objects talk version bytes = IsAdmissible objects version bytes × (version ≡ next_version talk)
+abbrev pub MayPutNext : Objects → (next version : ℕ) (bytes : List ℕ) → Type 0
+MayPutNext objects next version bytes = IsAdmissible objects version bytes × (version ≡ next)
 
 -- under the name of a version's checkpoint, one of the log's commits up to that version
 abbrev pub IsCheckpointPut : Objects → (name bytes : List ℕ) → Type 0
@@ -144,7 +148,7 @@ IsCheckpointPut objects name bytes = (version : ℕ) × (checkpoint_version name
 
 abbrev pub MayTellOfLoad : Objects → Talk → Result Loaded LogFault → Type 0
 MayTellOfLoad objects talk (Ok loaded) = IsLoadedBehind objects talk loaded
-MayTellOfLoad objects talk (Err (load_faults.BadLog version)) = LacksCommit talk version
+MayTellOfLoad objects talk (Err (load_faults.BadLog version)) = LacksCommit (next_version talk) talk version
 MayTellOfLoad objects talk (Err load_faults.Lost) = ends_lost talk ≡ true
 -- of want of memory nothing is said
 MayTellOfLoad objects talk (Err load_faults.Memory) = Unit {0}
@@ -171,11 +175,11 @@ pub record IsTooLargeCheckpoint (next : ℕ) (log : List (List Action)) : Type 0
 -- snapshot.
 abbrev pub MayTellOfCheckpoint : Objects → Talk → (known : Loaded) → Result ℕ SnapshotFault → Type 0
 MayTellOfCheckpoint objects talk known (Ok version) = HasCheckpoint objects talk version known
-MayTellOfCheckpoint objects talk known (Err (checkpoint_faults.BadLog version)) = LacksCommit talk version
+MayTellOfCheckpoint objects talk known (Err (checkpoint_faults.BadLog version)) = LacksCommit (next_version talk) talk version
 MayTellOfCheckpoint objects talk known (Err (checkpoint_faults.Unsupported fault)) =
-    IsLoadedBehind objects talk known × (log : List (List Action)) × IsLogBehind objects talk log × (checkpointable log ≡ Err (fault_of fault))
+    IsLoadedBehind objects talk known × (log : List (List Action)) × IsLogBehind objects (next_version talk) log × (checkpointable log ≡ Err (fault_of fault))
 MayTellOfCheckpoint objects talk known (Err checkpoint_faults.TooLarge) =
-    IsLoadedBehind objects talk known × (log : List (List Action)) × IsLogBehind objects talk log × IsTooLargeCheckpoint (next_version talk) log
+    IsLoadedBehind objects talk known × (log : List (List Action)) × IsLogBehind objects (next_version talk) log × IsTooLargeCheckpoint (next_version talk) log
 MayTellOfCheckpoint objects talk known (Err checkpoint_faults.Lost) = ends_lost talk ≡ true
 -- of want of memory nothing is said
 MayTellOfCheckpoint objects talk known (Err checkpoint_faults.Memory) = Unit {0}
@@ -186,13 +190,13 @@ MayTellOfCheckpoint objects talk known (Err checkpoint_faults.Memory) = Unit {0}
 abbrev pub TellsOfBatch : Schema → List Entry → SinkJob → AppendAnswer → Type 0
 TellsOfBatch schema entries job answer = (batch : Batch) × IsBatchOf schema job batch × TellsAppend answer batch entries
 
--- What of the job can be seen before the log is read is in order, and the rules say this of the commits that were listed and of the winners
--- that were found.
+-- What of the job can be seen before the log is read is in order, and the rules say this of the commits that were listed, or known, and of the
+-- winners that were found.
 pub record RulesSay (objects : Objects) (job : SinkJob) (talk : Talk) (said : Result SinkRequest SinkRefusal) : Type 0 where
   pub seen : IsFineJob job
   pub log : List (List Action)
-  pub stand : IsLogBehind objects talk log
-  pub says : asked_of job (next_version talk) log ≡ said
+  pub stand : IsLogBehind objects (next_of_stream job talk) log
+  pub says : asked_of job (next_of_stream job talk) log ≡ said
 
 -- Something stands under the name of the job's batch: its get gave nothing; or, within the limits of what is read, it is no file of the
 -- batch's rows.
@@ -219,15 +223,15 @@ MayTellOfStream objects schema entries job talk (Err (faults.Stale last)) = Tell
 MayTellOfStream objects schema entries job talk (Err faults.StreamClosed) = TellsOfBatch schema entries job appended.StreamClosed × IsLawful entries
 MayTellOfStream objects schema entries job talk (Err (faults.Differs name)) = HasOtherFile objects schema job talk (string_bytes name)
 -- as many versions were found taken as may be tried, and this one at last
-MayTellOfStream objects schema entries job talk (Err (faults.Contended newest)) = (versions_taken talk ≡ job.tries) × (next_version talk ≡ suc newest)
+MayTellOfStream objects schema entries job talk (Err (faults.Contended newest)) = (versions_taken talk ≡ job.tries) × (next_of_stream job talk ≡ suc newest)
 MayTellOfStream objects schema entries job talk (Err (faults.Lost (Some version))) = LosesCommit talk version
 MayTellOfStream objects schema entries job talk (Err (faults.Lost None)) = LosesOther talk
-MayTellOfStream objects schema entries job talk (Err (faults.BadLog version)) = LacksCommit talk version
+MayTellOfStream objects schema entries job talk (Err (faults.BadLog version)) = LacksCommit (next_of_stream job talk) talk version
 MayTellOfStream objects schema entries job talk (Err (faults.ReadOnly fault)) = RulesSay objects job talk (Err (sink_refusal_view (faults.ReadOnly fault)))
 MayTellOfStream objects schema entries job talk (Err (faults.BadRow index fault)) = RulesSay objects job talk (Err (sink_refusal_view (faults.BadRow index fault)))
 MayTellOfStream objects schema entries job talk (Err faults.BadApp) = fine job ≡ Err (sink_refusal_view faults.BadApp)
 -- a limit of the job's, or there is no version any more that a commit can have
-MayTellOfStream objects schema entries job talk (Err faults.TooLarge) = (fine job ≡ Err (sink_refusal_view faults.TooLarge)) ⊎ (greatest_version < next_version talk)
+MayTellOfStream objects schema entries job talk (Err faults.TooLarge) = (fine job ≡ Err (sink_refusal_view faults.TooLarge)) ⊎ (greatest_version < next_of_stream job talk)
 MayTellOfStream objects schema entries job talk (Err faults.FileTooLarge) = HasLargeFile objects job talk
 -- no winner of a sound store has a metadata
 MayTellOfStream objects schema entries job talk (Err (faults.SchemaChanged version)) = ⊥

@@ -50,8 +50,8 @@ pub fn what_a_checkpoint_may()
 /// number stands; that the close stands, and all numbers are below the batch's; that no file of its rows stands under
 /// its name, of those within the limits of what is read, or that nothing was got there. Or it is so of their talk: that
 /// as many versions were taken as may be tried, and the last of them; which call was lost; which commit is lacked. Or
-/// the rules say so of the commits that were listed and of the winners. That a winner changed the schema isn't told. Of
-/// want of memory nothing is said.
+/// the rules say so of the commits that were listed, or known where the session loads nothing, and of the winners. That
+/// a winner changed the schema isn't told. Of want of memory nothing is said.
 pub fn what_a_stream_may()
     ensures asks { (objects : Objects) (schema : Schema) (entries : List Entry) (job : SinkJob) (before talk : Talk) (asked : Asked) → BearsSession objects schema entries (streams job) before talk → IsValidJob (streams job)
         → SinkAsks job before talk asked → MayAsk objects schema (streams job) talk asked }

@@ -159,7 +159,7 @@ module _ (application : List ℕ) (number : ℕ) (items : Items) (at tries : ℕ
   -- a file of a new batch that would be too large, whatever calls are lost
   pub driven_large : (new : State) (talk : Talk) → Talked MayAnswer old talk new → AnswerEnds job before talk (Err faults.FileTooLarge) → plan ≡ Err file_too_large
   driven_large new talk told ends =
-      let quiet = loaded_quiet job before old new bears talk ends.is.known ends.is.tries ends.is.reaches told in
+      let quiet = loaded_quiet job before old new refl bears talk ends.is.known ends.is.tries ends.is.reaches told in
       let fine = reaches_fine job before talk ends.is.known ends.is.tries (rules None) ends.is.reaches in
       large_as ends.request (request_is ends.is.known fine quiet.0 (Ok ends.request) ends.is.asked) ends.is.new ends.large
 
@@ -172,7 +172,7 @@ module _ (application : List ℕ) (number : ℕ) (items : Items) (at tries : ℕ
     module _ (talk : Talk) (told : Talked Answers old talk new) (asked : AllAsked (SinkAsks job before) [] talk) where
       after_committed : (version : ℕ) → (race : InRace job before talk (λ put race. (winners : Vec (Vec actions.Action Global) Global) × CommitEnds put before race (Ok (outcomes.Committed version winners)))) → After (Ok (Committed version))
       after_committed version race =
-          let raced = raced_quiet job before old bears some _ new talk race told asked (Ok (outcomes.Committed version race.holds.0)) race.holds.1 in
+          let raced = raced_quiet job before old refl bears some _ new talk race told asked (Ok (outcomes.Committed version race.holds.0)) race.holds.1 in
           let fine = reaches_fine job before race.front race.known race.tries (ready race.readied) race.reaches in
           let put = ready_put raced.0 race.known race.tries race.readied fine raced.1 in
           let ends = raced.3 in
@@ -183,7 +183,7 @@ module _ (application : List ℕ) (number : ℕ) (items : Items) (at tries : ℕ
 
       after_past : InRace job before talk (λ put race. CommitEnds put before race (Err commit_faults.PastLimit)) → After (Err faults.TooLarge)
       after_past race =
-          let raced = raced_quiet job before old bears some _ new talk race told asked (Err commit_faults.PastLimit) race.holds in
+          let raced = raced_quiet job before old refl bears some _ new talk race told asked (Err commit_faults.PastLimit) race.holds in
           let fine = reaches_fine job before race.front race.known race.tries (ready race.readied) race.reaches in
           let put = ready_put raced.0 race.known race.tries race.readied fine raced.1 in
           let great : greatest_version < put.batch.version = rw put.version raced.3.0 in
@@ -195,7 +195,7 @@ module _ (application : List ℕ) (number : ℕ) (items : Items) (at tries : ℕ
       after_rules : (refusal : SinkRefusal) (fault : SinkFault) (known : Loaded) (left : ℕ) (readied : Option Readied) → Reaches job before talk known left (rules readied) → HoldsOf known (λ log. asked_of job known.next log ≡ Err refusal)
           → says (sink_refusal_view fault) ≡ refuses refusal → After (Err fault)
       after_rules refusal fault known left readied reaches asked told_as =
-          let quiet = ruled_quiet job before old bears some new talk known left readied reaches told in
+          let quiet = ruled_quiet job before old refl bears some new talk known left readied reaches told in
           let fine = reaches_fine job before talk known left (rules readied) reaches in
           refused application number at old.0 new.0 refusal fault plan (refused_plan refusal (request_is known fine quiet.1 (Err refusal) asked)) (ap (λ (s : State). s.0) quiet.0) told_as
 
@@ -211,7 +211,7 @@ module _ (application : List ℕ) (number : ℕ) (items : Items) (at tries : ℕ
 
       after_large : AnswerEnds job before talk (Err faults.FileTooLarge) → After (Err faults.FileTooLarge)
       after_large ends =
-          let quiet = loaded_quiet job before old new bears talk ends.is.known ends.is.tries ends.is.reaches may in
+          let quiet = loaded_quiet job before old new refl bears talk ends.is.known ends.is.tries ends.is.reaches may in
           refused application number at old.0 new.0 file_too_large faults.FileTooLarge plan (driven_large new talk may ends) quiet.1.0 refl
 
       -- ---- the file
@@ -222,7 +222,7 @@ module _ (application : List ℕ) (number : ℕ) (items : Items) (at tries : ℕ
       old_found front other request is got talked =
           let same : other ≡ number = same_number number other items is.items is.task in
           let last = talked_last Answers old new front (get_object (batch_file_name application other)) (told_object got) (subst (λ (t : Talk). Talked Answers old t new) talked told) in
-          let quiet = ruled_quiet job before old bears some last.0 front is.known is.tries is.old is.reaches last.1 in
+          let quiet = ruled_quiet job before old refl bears some last.0 front is.known is.tries is.old is.reaches last.1 in
           let fine = reaches_fine job before front is.known is.tries (rules is.old) is.reaches in (
             same,
             request_is is.known fine quiet.1 (Ok request) is.asked,
@@ -246,7 +246,7 @@ module _ (application : List ℕ) (number : ℕ) (items : Items) (at tries : ℕ
           → (other ≡ number) × (request_here ≡ Ok request) × (mid ≡ old)
       new_found front other request mid is reached =
           let same : other ≡ number = same_number number other items is.items is.task in
-          let quiet = ruled_quiet job before old bears some mid front is.known is.tries None is.reaches reached in
+          let quiet = ruled_quiet job before old refl bears some mid front is.known is.tries None is.reaches reached in
           let fine = reaches_fine job before front is.known is.tries (rules None) is.reaches in
           (same, request_is is.known fine quiet.1 (Ok request) is.asked, quiet.0)
 
@@ -311,7 +311,7 @@ module _ (application : List ℕ) (number : ℕ) (items : Items) (at tries : ℕ
       after_unput (filed front rest _ other request file answered is written reads talked) = after_filed front rest other request file answered is written reads talked
       after_unput (raced front rest _ race reads talked) =
           let parts = talked_behind Answers old new front rest (subst (λ (t : Talk). Talked Answers old t new) talked told) in
-          let quiet = undecided_quiet job before old bears some parts.0 front race parts.1 in
+          let quiet = undecided_quiet job before old refl bears some parts.0 front race parts.1 in
           let fine = reaches_fine job before race.front race.known race.tries (ready race.readied) race.reaches in
           let put = ready_put quiet.0 race.known race.tries race.readied fine quiet.1 in
           unfinished application number at old.0 new.0 put.batch put.made plan put.is (reads_quiet parts.0 new rest reads parts.2 ∙ (ap (λ (s : State). s.0) quiet.2 ∙ put.file))
@@ -328,7 +328,7 @@ module _ (application : List ℕ) (number : ℕ) (items : Items) (at tries : ℕ
     appended talk told may asked (Err faults.TooLarge) never (inr race) = after_past talk told asked race
     appended talk told may asked (Err faults.FileTooLarge) never ends = after_large talk told may ends
     appended talk told may asked (Err (faults.BadLog version)) never (inl ends) = after_bad talk told may version ends.0 ends.1
-    appended talk told may asked (Err (faults.BadLog version)) never (inr race) = absurd (raced_quiet job before old bears some _ new talk race told asked (Err (commit_faults.BadLog version)) race.holds).3
+    appended talk told may asked (Err (faults.BadLog version)) never (inr race) = absurd (raced_quiet job before old refl bears some _ new talk race told asked (Err (commit_faults.BadLog version)) race.holds).3
     appended talk told may asked (Err (faults.ReadOnly fault)) never ends = after_rules talk told may _ (faults.ReadOnly fault) ends.1.known ends.1.tries ends.0 ends.1.reaches ends.1.says refl
     appended talk told may asked (Err (faults.BadRow index fault)) never ends = after_rules talk told may _ (faults.BadRow index fault) ends.1.known ends.1.tries ends.0 ends.1.reaches (λ log is. (ends.1.says log is).1) refl
     appended talk told may asked (Err (faults.Stale last)) never ends = after_rules talk told may _ (faults.Stale last) ends.1.known ends.1.tries ends.0 ends.1.reaches (λ log is. (ends.1.says log is).1) refl
@@ -337,9 +337,9 @@ module _ (application : List ℕ) (number : ℕ) (items : Items) (at tries : ℕ
         let looked = ends.1 in
         let here = after_looked talk told may looked.front (string_bytes other) ends.0 looked.found looked.looks looked.talked looked.is in
         refused application number at old.0 new.0 (differs (string_bytes other)) (faults.Differs other) plan here.0 here.1 refl
-    appended talk told may asked (Err (faults.SchemaChanged version)) never ends = let none = (ruled_quiet job before old bears some new talk ends.0.1.known ends.0.1.tries (Some ends.0.0) ends.0.1.reaches told).2 in absurd cc
-    appended talk told may asked (Err (faults.Contended newest)) never (inl ends) = let given = (quiet_reaches job before old bears some talk ends.0 0 (ready ends.1) ends.2 new told).given in absurd (omega (arith, given, some))
-    appended talk told may asked (Err (faults.Contended newest)) never (inr race) = absurd (raced_quiet job before old bears some _ new talk race told asked (Ok (outcomes.Contended newest race.holds.0)) race.holds.1).3
+    appended talk told may asked (Err (faults.SchemaChanged version)) never ends = let none = (ruled_quiet job before old refl bears some new talk ends.0.1.known ends.0.1.tries (Some ends.0.0) ends.0.1.reaches told).2 in absurd cc
+    appended talk told may asked (Err (faults.Contended newest)) never (inl ends) = let given = (quiet_reaches job before old refl bears some talk ends.0 0 (ready ends.1) ends.2 new told).given in absurd (omega (arith, given, some))
+    appended talk told may asked (Err (faults.Contended newest)) never (inr race) = absurd (raced_quiet job before old refl bears some _ new talk race told asked (Ok (outcomes.Contended newest race.holds.0)) race.holds.1).3
     appended talk told may asked (Err (faults.Lost version)) never ends = absurd (never version refl)
     appended talk told may asked (Err faults.Memory) never ends = after_unput talk told may ends
 

@@ -162,7 +162,7 @@ module _ (application : List ℕ) (at tries : ℕ) (use_checkpoints : Bool) (fir
     module _ (talk : Talk) (told : Talked Answers old talk new) (asked : AllAsked (SinkAsks job before) [] talk) where
       after_closed : (version : ℕ) → (race : InRace job before talk (λ put race. (winners : Vec (Vec actions.Action Global) Global) × CommitEnds put before race (Ok (outcomes.Committed version winners)))) → After (Ok (Closed version))
       after_closed version race =
-          let raced = raced_quiet job before old bears some _ new talk race told asked (Ok (outcomes.Committed version race.holds.0)) race.holds.1 in
+          let raced = raced_quiet job before old refl bears some _ new talk race told asked (Ok (outcomes.Committed version race.holds.0)) race.holds.1 in
           let fine = reaches_fine job before race.front race.known race.tries (ready race.readied) race.reaches in
           let put = ready_put raced.0 race.known race.tries race.readied fine raced.1 in
           let ends = raced.3 in
@@ -172,7 +172,7 @@ module _ (application : List ℕ) (at tries : ℕ) (use_checkpoints : Bool) (fir
 
       after_past : InRace job before talk (λ put race. CommitEnds put before race (Err commit_faults.PastLimit)) → After (Err faults.TooLarge)
       after_past race =
-          let raced = raced_quiet job before old bears some _ new talk race told asked (Err commit_faults.PastLimit) race.holds in
+          let raced = raced_quiet job before old refl bears some _ new talk race told asked (Err commit_faults.PastLimit) race.holds in
           let fine = reaches_fine job before race.front race.known race.tries (ready race.readied) race.reaches in
           let put = ready_put raced.0 race.known race.tries race.readied fine raced.1 in
           passed application at old.0 new.0 race.known.next put.made plan put.is raced.3.0 (ap (λ (s : State). s.0) (raced.3.1 ∙ put.same))
@@ -183,7 +183,7 @@ module _ (application : List ℕ) (at tries : ℕ) (use_checkpoints : Bool) (fir
       after_rules : (refusal : SinkRefusal) (fault : SinkFault) (known : Loaded) (left : ℕ) (readied : Option Readied) → Reaches job before talk known left (rules readied) → HoldsOf known (λ log. asked_of job known.next log ≡ Err refusal)
           → says (sink_refusal_view fault) ≡ refuses refusal → After (Err fault)
       after_rules refusal fault known left readied reaches asked told_as =
-          let quiet = ruled_quiet job before old bears some new talk known left readied reaches told in
+          let quiet = ruled_quiet job before old refl bears some new talk known left readied reaches told in
           let fine = reaches_fine job before talk known left (rules readied) reaches in
           refused application at old.0 new.0 refusal fault plan (refused_plan refusal (request_is known fine quiet.1 (Err refusal) asked)) (ap (λ (s : State). s.0) quiet.0) told_as
 
@@ -200,7 +200,7 @@ module _ (application : List ℕ) (at tries : ℕ) (use_checkpoints : Bool) (fir
       after_already : AnswerEnds job before talk (Ok AlreadyClosed) → After (Ok AlreadyClosed)
       after_already ends =
           let ruled = ends.1.1 in
-          let quiet = ruled_quiet job before old bears some new talk ruled.known ruled.tries ends.1.0 ruled.reaches told in
+          let quiet = ruled_quiet job before old refl bears some new talk ruled.known ruled.tries ends.1.0 ruled.reaches told in
           let fine = reaches_fine job before talk ruled.known ruled.tries (rules ends.1.0) ruled.reaches in
           let asked = (ruled.says quiet.1.commits quiet.1.snapshot).1 in
           let here : request_here ≡ Ok asked.0 = request_at ruled.known fine quiet.1 (Ok asked.0) asked.1 in
@@ -211,7 +211,7 @@ module _ (application : List ℕ) (at tries : ℕ) (use_checkpoints : Bool) (fir
       after_unput (filed front rest _ other request file answered is written reads talked) = let wrong : closes ≡ appends other is.items = is.task in absurd cc
       after_unput (raced front rest _ race reads talked) =
           let parts = talked_behind Answers old new front rest (subst (λ (t : Talk). Talked Answers old t new) talked told) in
-          let quiet = undecided_quiet job before old bears some parts.0 front race parts.1 in
+          let quiet = undecided_quiet job before old refl bears some parts.0 front race parts.1 in
           let fine = reaches_fine job before race.front race.known race.tries (ready race.readied) race.reaches in
           let put = ready_put quiet.0 race.known race.tries race.readied fine quiet.1 in
           nothing application at old.0 new.0 plan (reads_quiet parts.0 new rest reads parts.2 ∙ ap (λ (s : State). s.0) (quiet.2 ∙ put.same))
@@ -233,15 +233,15 @@ module _ (application : List ℕ) (at tries : ℕ) (use_checkpoints : Bool) (fir
     closed_so talk told may asked (Err faults.TooLarge) never (inr race) = after_past talk told asked race
     closed_so talk told may asked (Err faults.FileTooLarge) never ends = let wrong : closes ≡ appends ends.number ends.is.items = ends.is.task in absurd cc
     closed_so talk told may asked (Err (faults.BadLog version)) never (inl ends) = after_bad talk told may version ends.0 ends.1
-    closed_so talk told may asked (Err (faults.BadLog version)) never (inr race) = absurd (raced_quiet job before old bears some _ new talk race told asked (Err (commit_faults.BadLog version)) race.holds).3
+    closed_so talk told may asked (Err (faults.BadLog version)) never (inr race) = absurd (raced_quiet job before old refl bears some _ new talk race told asked (Err (commit_faults.BadLog version)) race.holds).3
     closed_so talk told may asked (Err (faults.ReadOnly fault)) never ends = after_rules talk told may _ (faults.ReadOnly fault) ends.1.known ends.1.tries ends.0 ends.1.reaches ends.1.says refl
     closed_so talk told may asked (Err (faults.BadRow index fault)) never ends = after_rules talk told may _ (faults.BadRow index fault) ends.1.known ends.1.tries ends.0 ends.1.reaches (λ log is. (ends.1.says log is).1) refl
     closed_so talk told may asked (Err (faults.Stale last)) never ends = after_rules talk told may _ (faults.Stale last) ends.1.known ends.1.tries ends.0 ends.1.reaches (λ log is. (ends.1.says log is).1) refl
     closed_so talk told may asked (Err faults.StreamClosed) never ends = after_rules talk told may _ faults.StreamClosed ends.1.known ends.1.tries ends.0 ends.1.reaches (λ log is. (ends.1.says log is).1) refl
     closed_so talk told may asked (Err (faults.Differs other)) never ends = absurd (never_looked (string_bytes other) ends.0 ends.1.front ends.1.looks)
-    closed_so talk told may asked (Err (faults.SchemaChanged version)) never ends = let none = (ruled_quiet job before old bears some new talk ends.0.1.known ends.0.1.tries (Some ends.0.0) ends.0.1.reaches told).2 in absurd cc
-    closed_so talk told may asked (Err (faults.Contended newest)) never (inl ends) = let given = (quiet_reaches job before old bears some talk ends.0 0 (ready ends.1) ends.2 new told).given in absurd (omega (arith, given, some))
-    closed_so talk told may asked (Err (faults.Contended newest)) never (inr race) = absurd (raced_quiet job before old bears some _ new talk race told asked (Ok (outcomes.Contended newest race.holds.0)) race.holds.1).3
+    closed_so talk told may asked (Err (faults.SchemaChanged version)) never ends = let none = (ruled_quiet job before old refl bears some new talk ends.0.1.known ends.0.1.tries (Some ends.0.0) ends.0.1.reaches told).2 in absurd cc
+    closed_so talk told may asked (Err (faults.Contended newest)) never (inl ends) = let given = (quiet_reaches job before old refl bears some talk ends.0 0 (ready ends.1) ends.2 new told).given in absurd (omega (arith, given, some))
+    closed_so talk told may asked (Err (faults.Contended newest)) never (inr race) = absurd (raced_quiet job before old refl bears some _ new talk race told asked (Ok (outcomes.Contended newest race.holds.0)) race.holds.1).3
     closed_so talk told may asked (Err (faults.Lost version)) never ends = absurd (never version refl)
     closed_so talk told may asked (Err faults.Memory) never ends = after_unput talk told may ends
 

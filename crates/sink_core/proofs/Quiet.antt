@@ -1,6 +1,6 @@
 -- A sink's session over one store that is at rest, and loses no call: nothing but the session's own puts changes it, and it meets no
 -- winner.
-use Rattle.std.proofs.Common.{◌≡◌, ◌≢◌, ◌⊎◌, ◌≤◌, ◌<◌, ◌∙◌, ℕ, suc, List, [], ◌∷◌, ◌++◌, length, not, Bool, false, Option, Some, None, Result, Ok, Err, Vec, Global, IsSome, refl, sym, ap, subst, inl, inr, arith}
+use Rattle.std.proofs.Common.{◌≡◌, ◌≢◌, ◌⊎◌, ◌≤◌, ◌<◌, ◌∙◌, ℕ, suc, List, [], ◌∷◌, ◌++◌, length, not, Bool, true, false, Option, Some, None, Result, Ok, Err, Vec, Global, IsSome, refl, sym, ap, subst, inl, inr, arith}
 use Rattle.std.proofs.lemmas.Bool.{cases_lt}
 use Rattle.std.proofs.lemmas.List.{length-map}
 use Rattle.outcomes.specs.Results.{refused_if}
@@ -32,7 +32,7 @@ use Rattle.batch_core.specs.Committing.{batch_file_name}
 use Rattle.batch_core.specs.Refusals.{SinkRefusal, differs}
 use Rattle.batch_core.specs.Requests.{SinkRequest, IsWrittenFor, unless_other_rows}
 use Rattle.sink_core.specs.Appending.{size_behind}
-use Rattle.sink_core.specs.SinkSessions.{HoldsOf, IsUndecided, Point, PutsFile, Reaches, Readied, Readies, SinkAsks, SinkJob, SinkTask, commit_actions, anew, appends, asked_of, closes, conflicts, file_of, goes_on, loaded, race_of, ready, rules, readied_by, readies, stood}
+use Rattle.sink_core.specs.SinkSessions.{HoldsOf, IsUndecided, Point, PutsFile, Reaches, Readied, Readies, SinkAsks, SinkJob, SinkTask, commit_actions, anew, appends, asked_of, closes, conflicts, file_of, goes_on, knew, loaded, race_of, ready, rules, readied_by, readies, stood}
 use Rattle.sink_core.proofs.LogEnd.{log_end}
 
 -- what its commit needs is readied: the batch's file stands besides what stood, and where one stood it has the same rows; for a close
@@ -318,7 +318,8 @@ needs_so job request old now calls size readied told = by_task job.task readied
 listed_reads : (talk : Talk) (names : List (List ℕ)) → HasListed talk names → AllReads talk
 listed_reads talk names listed = subst AllReads (sym listed.talked) (tt, gets_read listed.gets listed.only)
 
-module _ (job : SinkJob) (before : Talk) (old : State) (bears : Bears old.0 before) (some : 1 ≤ job.tries) where
+-- the log is loaded
+module _ (job : SinkJob) (before : Talk) (old : State) (is_loading : job.loads ≡ true) (bears : Bears old.0 before) (some : 1 ≤ job.tries) where
   -- no commit stands at the version behind the log that is known, nor once the batch's file stands
   pub quiet_free : (now : State) (known : Loaded) (tries : ℕ) (readied : Readied) → QuietReady job old now known tries readied → known.next ≤ greatest_version → object_at now.0 (commit_name known.next) ≡ None
   quiet_free now known tries readied is small =
@@ -328,11 +329,12 @@ module _ (job : SinkJob) (before : Talk) (old : State) (bears : Bears old.0 befo
 
   -- where it has come to a point
   pub quiet_reaches : (talk : Talk) (known : Loaded) (tries : ℕ) (point : Point) → Reaches job before talk known tries point → (now : State) → Talked Answers old talk now → QuietAt job old now known tries point
-  quiet_reaches talk known tries point (loaded _ _ fine load) now told =
+  quiet_reaches talk known tries point (loaded _ _ fine loads load) now told =
       let reads = listed_reads talk load.names load.listed in
       let may = reads_may old now talk reads told in
       let here = reads_untouched old now talk reads may in
       (λ i. (here.0 i, here.1 i), load.whole old.0 bears (reads_shown old now talk reads may), refl)
+  quiet_reaches talk known tries point (knew _ fine loads knows one) now told = absurd cc
   quiet_reaches talk known tries point (readies front calls _ _ _ request size reaches asked new readied reads talked) now told =
       let parts = talked_behind Answers old now front calls (subst (λ (t : Talk). Talked Answers old t now) talked told) in
       let at = quiet_reaches front known tries (rules None) reaches parts.0 parts.1 in

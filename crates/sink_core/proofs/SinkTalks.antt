@@ -24,7 +24,7 @@ use Rattle.batch_core.specs.declared.fault.SinkFault.{SinkFault}
 use Rattle.batch_core.specs.declared.fault.SinkFault.TheVariants as faults
 use Rattle.batch_core.proofs.Callers.{HasRead, asked_parts, numbered_parts, reads_as_file, repeats_last}
 use Rattle.sink_core.specs.SinkLaws.{FileOfItems, HadSchema, IsCommittedIn, IsCommitOfJob, IsFileOfJob, BatchStandsIn, TellsCommit, WasSo}
-use Rattle.sink_core.specs.SinkSessions.{AnswerEnds, HoldsOf, InRace, IsOldBatch, IsNoCommitPut, LooksAt, Point, PutsFile, Reaches, Readied, Readies, SinkAsks, SinkJob, SinkTask, commit_actions, anew, appends, asked_of, closes, conflicts, file_of, goes_on, loaded, race_of, ready, repeated, rules, readied_by, readies, stood}
+use Rattle.sink_core.specs.SinkSessions.{AnswerEnds, HoldsOf, InRace, IsOldBatch, IsNoCommitPut, LooksAt, Point, PutsFile, Reaches, Readied, Readies, SinkAsks, SinkJob, SinkTask, commit_actions, anew, appends, asked_of, closes, conflicts, file_of, goes_on, knew, loaded, race_of, ready, repeated, rules, readied_by, readies, stood}
 use Rattle.sink_core.specs.SinkSessions as talks
 use Rattle.sink_core.specs.declared.sink_state.SinkOutcome.{SinkOutcome}
 use Rattle.sink_core.specs.declared.sink_state.SinkOutcome.TheVariants.{Already, AlreadyClosed, Closed, Committed}
@@ -104,8 +104,10 @@ module _ (objects : Objects) (job : SinkJob) (before : Talk) (number : ℕ) (ite
   -- where its commit may be put, or may be put again, the file that was readied stands
   pub file_stands : (talk : Talk) (known : Loaded) (tries : ℕ) (point : Point) (readied : Readied) → (point ≡ ready readied) ⊎ (point ≡ rules (Some readied)) → Bears objects talk → Reaches job before talk known tries point
       → FileOfItems objects (file_of job number) items readied.size (length readied.rows)
-  file_stands talk known tries point readied (inl is) bears (loaded _ _ fine load) = absurd cc
-  file_stands talk known tries point readied (inr is) bears (loaded _ _ fine load) = absurd cc
+  file_stands talk known tries point readied (inl is) bears (loaded _ _ fine loads load) = absurd cc
+  file_stands talk known tries point readied (inr is) bears (loaded _ _ fine loads load) = absurd cc
+  file_stands talk known tries point readied (inl is) bears (knew _ fine loads knows some) = absurd cc
+  file_stands talk known tries point readied (inr is) bears (knew _ fine loads knows some) = absurd cc
   file_stands talk known tries point readied (inl is) bears (readies front calls _ _ _ request size reaches asked new readied_so reads talked) =
       let all = subst (Bears objects) talked bears in
       let spelled = rows_spelled front known tries (rules None) request (bears_front objects front calls all) reaches asked in
@@ -283,8 +285,8 @@ module _ (job : SinkJob) (before talk : Talk) (version : ℕ) (bytes : List ℕ)
 
   -- it asks for nothing more
   pub created_quiet : (asked : Asked) → SinkAsks job before created asked → ⊥
-  created_quiet list_names (fine, none) = never (subst NotCreated (sym none) refl)
-  created_quiet (get_object name) (fine, inl asks) = never (listed_uncreated created asks.names asks.listed)
+  created_quiet list_names (fine, asks) = never (subst NotCreated (sym asks.1) refl)
+  created_quiet (get_object name) (fine, inl asks) = never (listed_uncreated created asks.1.names asks.1.listed)
   created_quiet (get_object name) (fine, inr (inl (request, repeated _ number _ is))) = at_no_point is.known is.tries (rules is.old) is.reaches
   created_quiet (get_object name) (fine, inr (inl (request, talks.taken front _ number _ file is written talked))) =
       never (subst NotCreated (sym talked) (file_uncreated front (file_of job number) file (told_put Exists)))

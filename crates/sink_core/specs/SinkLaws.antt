@@ -77,7 +77,7 @@ TellsCommit (Ok (Committed at)) version = at ≡ version
 TellsCommit (Ok (Closed at)) version = at ≡ version
 TellsCommit answer version = ⊥
 
--- The answer is told only where the rules were applied to a log that was loaded.
+-- The answer is told only where the rules were applied to a log that was loaded or known.
 abbrev pub IsBehindRules : Result SinkOutcome SinkFault → Type 0
 IsBehindRules (Err faults.BadApp) = ⊥
 IsBehindRules (Err faults.TooLarge) = ⊥

@@ -9,7 +9,7 @@ mod sink_laws;
 mod sink_session;
 mod sink_state;
 
-pub use batch_core::{GREATEST_NUMBER, MOST_ID_BYTES, MOST_ROWS, SinkFault};
+pub use batch_core::{GREATEST_NUMBER, MOST_ID_BYTES, MOST_ROWS, Prepared, SinkFault, prepare};
 pub use sink_laws::{
     a_contended_sink_tried_all, a_created_commit_is_told, a_sink_asks_for_little,
     a_sink_hands_back_what_it_learnt, what_a_sink_may,

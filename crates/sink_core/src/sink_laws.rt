@@ -1,6 +1,6 @@
 //! Laws of a sink's sessions: what they may ask for and tell, and how many calls and tries they make. Each is a
 //! function that does nothing, whose contract is the law.
-ghost use Rattle.std.specs.Prelude.{◌≡◌, ◌≤◌, ◌+◌, ◌*◌, ℕ, List, [], ◌∷◌, ◌++◌, length, Ok, Err};
+ghost use Rattle.std.specs.Prelude.{◌≡◌, ◌≤◌, ◌+◌, ◌*◌, ℕ, List, [], ◌∷◌, ◌++◌, false, length, Ok, Err};
 ghost use Rattle.store_core.specs.Objects.{Objects};
 ghost use Rattle.store_core.specs.declared.store.Put.TheVariants.{Created};
 ghost use Rattle.session_core.specs.Sessions.{AllAsked};
@@ -54,8 +54,10 @@ pub fn a_sink_hands_back_what_it_learnt()
     ensures { (job : SinkJob) (before talk : Talk) (end : SinkEnd) → SinkEnds job before talk end → IsBehindRules end.answer → HandsBack job before talk end.known }
 {}
 
-/// A session makes at most as many calls as names were listed, two for each try, and four.
+/// A session makes at most as many calls as names were listed, two for each try, and four; where it loads nothing, two
+/// for each try, and three.
 pub fn a_sink_asks_for_little()
-    ensures { (job : SinkJob) (before talk rest : Talk) (names : List (List ℕ)) → AllAsked (SinkAsks job before) [] talk → talk ≡ (list_names, told_names names) ∷ rest
+    ensures listed { (job : SinkJob) (before talk rest : Talk) (names : List (List ℕ)) → AllAsked (SinkAsks job before) [] talk → talk ≡ (list_names, told_names names) ∷ rest
         → length talk ≤ length names + 2 * job.tries + 4 }
+    ensures known { (job : SinkJob) (before talk : Talk) → AllAsked (SinkAsks job before) [] talk → job.loads ≡ false → length talk ≤ 2 * job.tries + 3 }
 {}

@@ -16,13 +16,19 @@ use std::collections::BTreeMap;
 use std::marker::Model;
 use std::sync::Arc;
 
+/// How many puts the names are kept through that nobody lists meanwhile: each moves those behind its own.
+const MOST_UNLISTED: u64 = 64;
+
 /// A store in memory, seen as the finite map from names to bytes that stands. No call is lost.
 #[derive(Drop)]
 pub struct MemoryStore {
     alloc: Global,
     objects: BTreeMap<String, Vec<u8>>,
-    // The names, once they were listed, with those that were put since. None where there was no room to keep them.
+    // The names, once they were listed, with those that were put since. None where there was no room to keep them, or
+    // where many puts went through without a list.
     names: Option<Names>,
+    // How many puts there were since they were listed.
+    unlisted: u64,
 }
 
 impl Model for MemoryStore {
@@ -50,6 +56,7 @@ impl MemoryStore {
             alloc,
             objects: BTreeMap::new(alloc),
             names: None,
+            unlisted: 0,
         }
     }
 
@@ -77,8 +84,9 @@ impl Store for MemoryStore {
     ghost makes = { λ _ _. Unit {0} };
 
     /// Shares the names, in constant time. Only the first time they are copied, in time linear in their bytes, and
-    /// behind a put while others shared them.
+    /// behind a put while others shared them, or behind more than 64 puts without a list.
     fn list(&mut self) -> Result<Names, StoreFault> {
+        self.unlisted = 0;
         list_in(self.alloc, &self.objects, &mut self.names)
     }
 
@@ -88,8 +96,9 @@ impl Store for MemoryStore {
     }
 
     /// Copies the name and moves the bytes, in time logarithmic in the number of names, but that those behind it make
-    /// room for it in the list of names.
+    /// room for it in the list of names, where that is kept.
     fn put_absent(&mut self, name: &str, bytes: Vec<u8>) -> Result<Put, StoreFault> {
+        forget_unlisted(&self.objects, &mut self.names, &mut self.unlisted);
         put_in(self.alloc, &mut self.objects, &mut self.names, name, bytes)
     }
 
@@ -172,6 +181,22 @@ fn keep_name(alloc: Global, kept: &mut Option<Names>, name: &str)
 {
     if let Some(names) = kept.take() {
         *kept = with_name(alloc, names, name);
+    }
+}
+
+/// Counts a put, and keeps no names any more through which many went without a list.
+fn forget_unlisted(
+    objects: &BTreeMap<String, Vec<u8>>,
+    kept: &mut Option<Names>,
+    unlisted: &mut u64,
+)
+    requires { AreNamesOf objects.now kept.old }
+    ensures { AreNamesOf objects.now kept.new }
+{
+    if *unlisted == MOST_UNLISTED {
+        *kept = None;
+    } else {
+        *unlisted = unlisted.saturating_add(1);
     }
 }
 

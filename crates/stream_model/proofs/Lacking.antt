@@ -149,16 +149,20 @@ listed_first talk = []
 same_names : (talk : Talk) (names others : List (List ℕ)) → ListsFirst talk names → ListsFirst talk others → names ≡ others
 same_names talk names others one two = sym (ap listed_first one.1) ∙ ap listed_first two.1
 
--- Behind a list that had a commit none is lacked.
-pub none_lacked : (talk : Talk) → AllTold [] talk → ListsCommit talk → (version : ℕ) → LacksCommit talk version → ⊥
-none_lacked talk all listed version (none_listed names lists none first) = let same = same_names talk names listed.0 lists listed.1 in omega (arith, none, listed.2, ap count_in same)
-none_lacked talk all listed version (got_none below (front, last)) = by_past (told_at [] front (get_object (commit_name version)) (told_object None) [] own)
+-- behind a list that was made first the same version comes next, whichever came next before
+listed_anew : (next : ℕ) (talk : Talk) (names : List (List ℕ)) → ListsFirst talk names → next_after_talk next talk ≡ next_version talk
+listed_anew next talk names lists = ap (next_after_talk next) lists.1 ∙ sym (ap next_version lists.1)
+
+-- Behind a list that had a commit none is lacked, whichever version came next before.
+pub none_lacked : (next : ℕ) (talk : Talk) → AllTold [] talk → ListsCommit talk → (version : ℕ) → LacksCommit (next_after_talk next talk) talk version → ⊥
+none_lacked next talk all listed version (none_listed names lists none first) = let same = same_names talk names listed.0 lists listed.1 in omega (arith, none, listed.2, ap count_in same)
+none_lacked next talk all listed version (got_none below (front, last)) = by_past (told_at [] front (get_object (commit_name version)) (told_object None) [] own)
   where
     own : AllTold [] (front ++ (get_object (commit_name version), told_object None) ∷ [])
     own = subst (λ (t : Talk). AllTold [] t) last all
 
     low : version < next_version front
-    low = subst (λ (n : ℕ). version < n) (ap next_version last ∙ get_next front (commit_name version) (told_object None)) below
+    low = subst (λ (n : ℕ). version < n) (listed_anew next talk listed.0 listed.1 ∙ (ap next_version last ∙ get_next 0 front (commit_name version) (told_object None))) below
 
     by_past : WasTold front (get_object (commit_name version)) (told_object None) → ⊥
     by_past (past, sound, borne, told) =
@@ -166,7 +170,7 @@ none_lacked talk all listed version (got_none below (front, last)) = by_past (to
         let nothing : object_at past (commit_name version) ≡ None = cc in
         let none : IsSome {T = List ℕ} None = subst IsSome nothing stands in
         absurd cc
-none_lacked talk all listed version (not_listed names lists below gap) = by_past (subst (λ (t : Talk). AllTold [] t) lists.1 all).0
+none_lacked next talk all listed version (not_listed names lists below gap) = by_past (subst (λ (t : Talk). AllTold [] t) lists.1 all).0
   where
     by_past : WasTold [] list_names (told_names names) → ⊥
     by_past (past, sound, borne, told) = let same : names ≡ names_of past = cc in no_gap past sound.table names same gap

@@ -14,7 +14,7 @@ use Rattle.log_laws.proofs.Callers.{count_held, log_checkpointable}
 use Rattle.session_laws.specs.May.{MayTell}
 use Rattle.source_core.specs.SourceSessions.{SourceJob}
 use Rattle.source_core.specs.declared.source_session.ReadEnd.{ReadEnd}
-use Rattle.session_laws.specs.Rows.{IsLogBehind, ListsFirst, MayTellOfCheckpoint, MayTellOfRead, MayTellOfStream, TellsOfListed, next_version}
+use Rattle.session_laws.specs.Rows.{IsLogBehind, ListsFirst, MayTellOfCheckpoint, MayTellOfRead, MayTellOfStream, TellsOfListed, next_of_stream, next_version}
 use Rattle.session_laws.specs.Jobs.{Job, Outcome, checkpoints, creates, loads, read, reads, streams}
 use Rattle.session_laws.specs.Moves.{HasAsked, tells}
 use Rattle.session_laws.proofs.Callers.{IsFrontOf, front_of, listed_count}
@@ -51,9 +51,9 @@ module _ (laws : AreLaws) (events : List Event) (outs : List (Job × Outcome)) (
       table = good.store.sound.table
 
       by_job : (job : Job) (outcome : Outcome) → MayTell w.objects table.schema table.entries job actor.before actor.talk outcome → TellsBadLog outcome → ⊥
-      by_job (loads job) outcome told (bad_load version) = none_lacked actor.talk own.told listed version told
-      by_job (checkpoints job) outcome told (bad_checkpoint end version is) = none_lacked actor.talk own.told listed version (subst (MayTellOfCheckpoint w.objects actor.talk end.known) is told)
-      by_job (streams job) outcome told (bad_stream end version is) = none_lacked actor.talk own.told listed version (subst (MayTellOfStream w.objects table.schema table.entries job actor.talk) is told)
+      by_job (loads job) outcome told (bad_load version) = none_lacked 0 actor.talk own.told listed version told
+      by_job (checkpoints job) outcome told (bad_checkpoint end version is) = none_lacked 0 actor.talk own.told listed version (subst (MayTellOfCheckpoint w.objects actor.talk end.known) is told)
+      by_job (streams job) outcome told (bad_stream end version is) = none_lacked (next_of_stream job []) actor.talk own.told listed version (subst (MayTellOfStream w.objects table.schema table.entries job actor.talk) is told)
       by_job (loads job) outcome told (bad_checkpoint end version is) = told
       by_job (loads job) outcome told (bad_stream end version is) = told
       by_job (checkpoints job) outcome told (bad_load version) = told
@@ -83,7 +83,7 @@ module _ (laws : AreLaws) (events : List Event) (outs : List (Job × Outcome)) (
 
   module _ (schema : Schema) (entries : List Entry) (holds : Holds w.objects schema entries) where
     -- the log that a session read asks for no feature but for invariants
-    checkpoint_barred : (log : List (List Action)) → IsLogBehind w.objects actor.talk log → (fault : Unsupported) → checkpointable log ≡ Err fault → has_key_inside (codes "delta.invariants") schema ≡ true
+    checkpoint_barred : (log : List (List Action)) → IsLogBehind w.objects (next_version actor.talk) log → (fault : Unsupported) → checkpointable log ≡ Err fault → has_key_inside (codes "delta.invariants") schema ≡ true
     checkpoint_barred log stand fault refused = by_firsts front.firsts front.made front.lawful.begins front.long
       where
         within : next_version actor.talk ≤ commit_count w.objects

@@ -123,10 +123,10 @@ module _ (makes : Talk → Type 0) (is_reliable : Type 0) (most : ℕ) (old new 
   -- ---- an append and a close
 
   large_so : (application : List ℕ) (task : SinkTask) (at tries : ℕ) (use_checkpoints : Bool) (known : Loaded) (end : SinkEnd)
-      → Drives SinkAsks SinkEnds is_lost_end makes is_reliable (record { application = application; task = task; at = at; tries = tries; load = load_job use_checkpoints known }) most (all_got old.0 old.0) end old new count later
-      → TellsLargeBatch task (record { application = application; task = task; at = at; tries = tries; load = load_job use_checkpoints known }) end.answer old.0
+      → Drives SinkAsks SinkEnds is_lost_end makes is_reliable (record { application = application; task = task; at = at; tries = tries; load = load_job use_checkpoints known; loads = true }) most (all_got old.0 old.0) end old new count later
+      → TellsLargeBatch task (record { application = application; task = task; at = at; tries = tries; load = load_job use_checkpoints known; loads = true }) end.answer old.0
   large_so application (appends number items) at tries use_checkpoints known end driven = λ is.
-      let job : SinkJob = record { application = application; task = appends number items; at = at; tries = tries; load = load_job use_checkpoints known } in
+      let job : SinkJob = record { application = application; task = appends number items; at = at; tries = tries; load = load_job use_checkpoints known; loads = true } in
       driven_large application number items at tries use_checkpoints known (all_got old.0 old.0) old (got_borne old.0) new driven.talk driven.talked (subst (λ a. AnswerEnds job (all_got old.0 old.0) driven.talk a) is driven.ended.answer)
   large_so application closes at tries use_checkpoints known end driven = tt
 
@@ -138,10 +138,10 @@ module _ (makes : Talk → Type 0) (is_reliable : Type 0) (most : ℕ) (old new 
       record {
         kept = driven_kept job makes is_reliable most before end.known end.answer old new count later bears driven;
         large =
-            subst (λ (load : LoadJob). TellsLargeBatch job.task (record job { load = load }) end.answer old.0) (sym begins.1)
+            subst (λ (j : SinkJob). TellsLargeBatch job.task j end.answer old.0) (sym begins.1)
             (large_so job.application job.task job.at job.tries job.load.use_checkpoints begins.0 end
-            (subst (λ (load : LoadJob). Drives SinkAsks SinkEnds is_lost_end makes is_reliable (record job { load = load }) most before end old new count later) begins.1 driven));
-        learnt = λ is said. handed_quiet job before old new bears runs.1 driven.talk end.known (hands_back job before driven.talk end.known end.answer driven.ended.answer driven.ended.kept said) (driven.exact is);
+            (subst (λ (j : SinkJob). Drives SinkAsks SinkEnds is_lost_end makes is_reliable j most before end old new count later) begins.1 driven));
+        learnt = λ is said. handed_quiet job before old new (ap (λ (j : SinkJob). j.loads) begins.1) bears runs.1 driven.talk end.known (hands_back job before driven.talk end.known end.answer driven.ended.answer driven.ended.kept said) (driven.exact is);
       }
 
   -- ---- a load and a read

@@ -58,9 +58,9 @@ same_drive makes is_reliable asks ends lost own_asks own_ends own_lost job own m
   few = driven.few;
 }
 
--- The load of an append or a close begins with what was loaded before.
+-- An append or a close loads the log, and begins with what was loaded before.
 abbrev pub BeginsKnown : SinkJob → Type 0
-BeginsKnown job = (known : Loaded) × (job.load ≡ load_job job.load.use_checkpoints known)
+BeginsKnown job = (known : Loaded) × (job ≡ record job { load = load_job job.load.use_checkpoints known; loads = true })
 
 -- what the laws ask of a job: an application's id is text, a version is tried at least, and the moment is below 2^63, as each job of the code has it
 abbrev pub IsRunnable : Job → Type 0
@@ -96,17 +96,17 @@ module _ (makes : Talk → Type 0) (is_reliable : Type 0) (is : is_reliable) (mo
       record { told = after.told; left = after.left; short = after.short; well_put = after.well_put; grows = after.grows; unlost = never }
 
   task_so : (application : List ℕ) (task : SinkTask) (at tries : ℕ) (use_checkpoints : Bool) (known : Loaded) (end : SinkEnd) → 1 ≤ tries → IsUtf8 application → at < 2 ^ 63
-      → Drives SinkAsks SinkEnds is_lost_end makes is_reliable (record { application = application; task = task; at = at; tries = tries; load = load_job use_checkpoints known }) most (all_got old.0 old.0) end old new count later
-      → IsTaskDone task (record { application = application; task = task; at = at; tries = tries; load = load_job use_checkpoints known }) old.0 new.0 end.answer
+      → Drives SinkAsks SinkEnds is_lost_end makes is_reliable (record { application = application; task = task; at = at; tries = tries; load = load_job use_checkpoints known; loads = true }) most (all_got old.0 old.0) end old new count later
+      → IsTaskDone task (record { application = application; task = task; at = at; tries = tries; load = load_job use_checkpoints known; loads = true }) old.0 new.0 end.answer
   task_so application (appends number items) at tries use_checkpoints known end some utf8 small driven = append_so application number items at tries use_checkpoints known end some utf8 small driven
   task_so application closes at tries use_checkpoints known end some utf8 small driven = close_so application at tries use_checkpoints known end some driven
 
   stream_so : (job : SinkJob) (end : SinkEnd) → IsRunnable (kinds.streams job) → Drives SinkAsks SinkEnds is_lost_end makes is_reliable job most (all_got old.0 old.0) end old new count later → IsTaskDone job.task job old.0 new.0 end.answer
   stream_so job end runs driven =
       let begins : BeginsKnown job = runs.3 end in
-      subst (λ (load : LoadJob). IsTaskDone job.task (record job { load = load }) old.0 new.0 end.answer) (sym begins.1)
+      subst (λ (j : SinkJob). IsTaskDone job.task j old.0 new.0 end.answer) (sym begins.1)
       (task_so job.application job.task job.at job.tries job.load.use_checkpoints begins.0 end runs.1 runs.0 runs.2
-      (subst (λ (load : LoadJob). Drives SinkAsks SinkEnds is_lost_end makes is_reliable (record job { load = load }) most (all_got old.0 old.0) end old new count later) begins.1 driven))
+      (subst (λ (j : SinkJob). Drives SinkAsks SinkEnds is_lost_end makes is_reliable j most (all_got old.0 old.0) end old new count later) begins.1 driven))
 
   -- ---- a checkpoint, a load, a creation and a read
 

@@ -1,5 +1,5 @@
 -- A job of the code, as plain data.
-use Rattle.std.specs.Prelude.{◌≡◌, Bool, [], None, map, string_bytes}
+use Rattle.std.specs.Prelude.{◌≡◌, Bool, true, false, [], None, map, string_bytes}
 use Rattle.log_reading.specs.Logs.{version_of}
 use Rattle.log_reading.specs.declared.log_cache.LogCache.{LogCache}
 use Rattle.table_log.specs.LoadSessions.{LoadJob, load_job}
@@ -23,6 +23,7 @@ stream_view job = record {
   at = job.at;
   tries = job.tries;
   load = new_load job.use_checkpoints;
+  loads = true;
 }
 
 abbrev pub job_view : code.Job → Job
@@ -35,6 +36,10 @@ job_view (jobs.Read place max use_checkpoints) = reads (record { place = offset_
 -- how a log is loaded of which this is known
 abbrev pub known_load : Loaded → LoadJob → LoadJob
 known_load known job = load_job job.use_checkpoints known
+
+-- the job of a stream that goes on from what is known of the log, and loads nothing
+abbrev pub without_load : Loaded → SinkJob → SinkJob
+without_load known job = record job { load = known_load known job.load; loads = false }
 
 -- a job that begins with what is known of the log
 abbrev pub with_known : LogCache → Job → Job

@@ -1,5 +1,5 @@
 //! The session that does a job.
-ghost use Rattle.std.specs.Prelude.{◌≡◌, [], None, false, map};
+ghost use Rattle.std.specs.Prelude.{◌≡◌, ◌<◌, [], None, false, map};
 ghost use Rattle.store_core.specs.Objects.{Objects};
 ghost use Rattle.log_offsets.specs.Offsets.{offset_view};
 ghost use Rattle.log_reading.specs.LogCache.{IsCacheOf};
@@ -17,13 +17,13 @@ ghost use Rattle.source_core.specs.declared.source_session.SourceStage.TheVarian
 ghost use Rattle.session_core.specs.Talks.{Bears, Talk};
 ghost use Rattle.table_jobs.specs.Jobs.{CanBegin, IsValidJob, streams};
 ghost use Rattle.table_jobs.specs.Sessions.{SessionFits, awaited, is_ended, job_of};
-ghost use Rattle.table_jobs.specs.Views.{KeepsRest, job_view, known_load, stream_view, with_known};
+ghost use Rattle.table_jobs.specs.Views.{KeepsRest, job_view, known_load, stream_view, with_known, without_load};
 
 use crate::job::{Creation, Job, StreamJob};
 use crate::job_session::JobSession;
 use commit_core::CreateSession;
 use log_reading::{Log, LogCache};
-use sink_core::{SinkSession, SinkTask};
+use sink_core::{Prepared, SinkSession, SinkTask};
 use snapshot_core::CheckpointSession;
 use source_core::{Offset, SourceSession};
 use std::alloc::Global;
@@ -75,6 +75,32 @@ impl<'r> JobSession<'r> {
                 use_checkpoints,
             } => JobSession::Read(read_session(alloc, place, max, use_checkpoints, cache)),
         }
+    }
+
+    /// The session of an append or a close that goes on from what is known of the log, of one version at least. It
+    /// lists no names and loads nothing: what stands behind what is known it meets as winners, each of which costs a
+    /// try. The file of an append may have been prepared before; a close has none.
+    pub fn going_on(
+        alloc: Global,
+        job: StreamJob<'r>,
+        known: Loaded,
+        file: Option<Prepared>,
+    ) -> JobSession<'r>
+        requires some { 0 < known.next }
+        ensures job { job_of result ≡ streams (without_load known (stream_view job.entry)) }
+        ensures new { awaited result ≡ None }
+        ensures unended { is_ended result ≡ false }
+        // What was known goes before its talk, in stores of which it is so.
+        ensures fits { (before : Talk) → ((objects : Objects) → Bears objects before → IsFront objects known) → SessionFits before result [] None }
+        ensures valid { IsValidJob (job_of result) }
+    {
+        let mut cache = LogCache::new(alloc);
+        cache.loaded = known;
+        let session = stream_session(alloc, job, &mut cache).without_load();
+        JobSession::Stream(match file {
+            Some(file) => session.with_file(file),
+            None => session,
+        })
     }
 }
 

@@ -1,0 +1,228 @@
+//! What a worker does at a seat: jobs of streams, one after the other, by what it learns of the log; and jobs amid the
+//! commits of another seat.
+
+ghost use Rattle.lake_workers.specs.Following.{IsKnownAt};
+
+use crate::jobs::{job_of, tell_end};
+use crate::seats::{Room, tell_at, tell_call};
+use case_seats::Holder;
+use case_words::{Transcript, head};
+use lake_workers::{Prepared, prepare};
+use log_hub::{Hub, Naming};
+use sink_core::{SinkEnd, SinkTask};
+use std::sync::Wait;
+use table_jobs::{Job, JobEnd, StreamJob};
+use table_log::Loaded;
+
+/// Takes the seat of a place. A place without one is misspelled.
+fn taken<J: Naming>(room: &mut Room<J>, place: usize, told: &mut Transcript) -> Option<Holder<J>> {
+    let found = match room.places.get_mut(place) {
+        Some(found) => found.take(),
+        None => None,
+    };
+    if found.is_none() {
+        told.misspelled();
+    }
+    found
+}
+
+/// Puts a seat back into its place.
+fn put_back<J: Naming>(room: &mut Room<J>, place: usize, holder: Holder<J>) {
+    if let Some(found) = room.places.get_mut(place) {
+        *found = Some(holder);
+    }
+}
+
+/// Runs the items of a worker at a seat: `ITEM | ITEM ..`.
+pub fn tell_works<J: Naming, R: Wait>(
+    rt: &R,
+    room: &mut Room<J>,
+    place: usize,
+    items: &str,
+    told: &mut Transcript,
+) {
+    let Some(mut holder) = taken(room, place, told) else {
+        return;
+    };
+    let mut known = Loaded::new(told.alloc);
+    for item in items.split(" | ") {
+        let (word, line) = head(item);
+        if let Ok(other) = word.parse::<u64>() {
+            tell_at(rt, room, other as usize, line, told);
+        } else if word == "prepared" {
+            tell_work(rt, &room.hub, &mut holder, &mut known, line, true, told);
+        } else {
+            tell_work(rt, &room.hub, &mut holder, &mut known, item, false, told);
+        }
+    }
+    put_back(room, place, holder);
+}
+
+/// Runs a stream's job by what is known of the log, with its file prepared before or not, and adds what is told.
+fn tell_work<J: Naming, R: Wait>(
+    rt: &R,
+    hub: &Hub<J>,
+    holder: &mut Holder<J>,
+    known: &mut Loaded,
+    line: &str,
+    prepares: bool,
+    told: &mut Transcript,
+)
+    requires { IsKnownAt holder.old.seat known.old }
+    ensures { IsKnownAt holder.new.seat known.new }
+{
+    let Some(Job::Stream(job)) = job_of(line, told) else {
+        return told.misspelled();
+    };
+    let file = if prepares {
+        prepared(known, &job, told)
+    } else {
+        None
+    };
+    match holder.work(rt, hub, known, job, file) {
+        Ok((answer, receipt)) => {
+            let nothing = Loaded::new(told.alloc);
+            tell_end(
+                JobEnd::Streamed(SinkEnd {
+                    known: nothing,
+                    answer,
+                }),
+                told,
+            );
+            if let Some(version) = receipt {
+                told.tell("receipt", &version);
+            }
+        }
+        Err(_error) => told.lacks_memory(),
+    }
+}
+
+/// The file of a job's batch, prepared for the table's schema, as far as that is known; why it isn't is told.
+fn prepared(known: &Loaded, job: &StreamJob<'_>, told: &mut Transcript) -> Option<Prepared> {
+    let SinkTask::Append { number, rows } = &job.task else {
+        told.misspelled();
+        return None;
+    };
+    let Ok(schema) = known.snapshot.supports_write(told.alloc) else {
+        told.say("no schema");
+        return None;
+    };
+    let application = told.copy_of(&job.application);
+    match prepare(told.alloc, schema, application, *number, rows) {
+        Ok(file) => {
+            told.with("prepared ", &file.count());
+            told.with(" rows ", &file.bytes.len());
+            told.tell(" bytes", &file.name);
+            Some(file)
+        }
+        Err(fault) => {
+            told.refuse(&fault);
+            None
+        }
+    }
+}
+
+/// The line of an append without rows.
+fn append_line(application: &str, number: u64, told: &mut Transcript) -> String {
+    match format!(in told.alloc; "append {application} {number} 0 []") {
+        Ok(line) => line,
+        Err(_error) => {
+            told.lacks_memory();
+            String::new(told.alloc)
+        }
+    }
+}
+
+/// So many appends of an application without rows by a worker at a seat: `N APP`. What the last one told.
+pub fn tell_appends<J: Naming, R: Wait>(
+    rt: &R,
+    room: &mut Room<J>,
+    place: usize,
+    words: &str,
+    told: &mut Transcript,
+) {
+    let (count, application) = head(words);
+    let count = told.number(count);
+    let Some(mut holder) = taken(room, place, told) else {
+        return;
+    };
+    let mut known = Loaded::new(told.alloc);
+    let mut last = Transcript::new(told.alloc);
+    for number in 0..count {
+        last = Transcript::new(told.alloc);
+        let line = append_line(application, number, &mut last);
+        tell_work(
+            rt,
+            &room.hub,
+            &mut holder,
+            &mut known,
+            &line,
+            false,
+            &mut last,
+        );
+    }
+    told.heed(&last);
+    told.add(last.bytes());
+    put_back(room, place, holder);
+}
+
+/// Drives the session of a line's job, while another seat does what a line says in front of one of its calls: `M C LINE
+/// | LINE`.
+pub fn tell_amid<J: Naming, R: Wait>(
+    rt: &R,
+    room: &mut Room<J>,
+    place: usize,
+    words: &str,
+    told: &mut Transcript,
+) {
+    let (other, words) = head(words);
+    let (at, lines) = head(words);
+    let other = told.number(other) as usize;
+    let at = told.number(at);
+    let Some(mut holder) = taken(room, place, told) else {
+        return;
+    };
+    if let Some(mut rival) = taken(room, other, told) {
+        tell_both(rt, &room.hub, &mut holder, &mut rival, at, lines, told);
+        put_back(room, other, rival);
+    }
+    put_back(room, place, holder);
+}
+
+/// Drives the session of the first line's job, while the rival does what the second one says in front of the call of
+/// that number. What the rival is told comes first.
+fn tell_both<J: Naming, R: Wait>(
+    rt: &R,
+    hub: &Hub<J>,
+    holder: &mut Holder<J>,
+    rival: &mut Holder<J>,
+    at: u64,
+    lines: &str,
+    told: &mut Transcript,
+) {
+    let Some((line, aside)) = lines.split_once(" | ") else {
+        return told.misspelled();
+    };
+    let Some(job) = job_of(line, told) else {
+        return;
+    };
+    let mut call = 0u64;
+    let ended = holder.drive_amid(rt, hub, job, || {
+        if call == at {
+            tell_call(rt, hub, rival, aside, told);
+        }
+        call = call.saturating_add(1);
+    });
+    if call <= at {
+        told.misspelled();
+    }
+    match ended {
+        Ok((end, receipt)) => {
+            tell_end(end, told);
+            if let Some(version) = receipt {
+                told.tell("receipt", &version);
+            }
+        }
+        Err(_error) => told.lacks_memory(),
+    }
+}
