@@ -14,7 +14,7 @@ use std::marker::Model;
 use std::sync::Wait;
 
 /// How often it is looked for the book before anybody waits for it.
-const LOOKS: u32 = 4_000;
+const LOOKS: u32 = 100;
 
 /// The most pauses between two looks.
 const MOST_PAUSES: u32 = 512;
@@ -133,7 +133,7 @@ pub fn take_out<R: Wait>(rt: &R, outlet: &Outlet, pass: &mut Pass) -> Book
     unreachable!()
 }
 
-/// Takes the book out, where it lies there at one of many looks; a wait costs more than most calls take. The looks are
+/// Takes the book out, where it lies there at one of a few looks; a wait costs more than most calls take. The looks are
 /// farther and farther apart: each one takes the channel's line of memory away from the thread that has the book out.
 fn look_for<R: Wait>(rt: &R, outlet: &Outlet, pass: &mut Pass) -> Option<Book>
     requires seat { IsSeatAt (receives_on outlet.now) pass.old }
