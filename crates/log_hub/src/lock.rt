@@ -17,7 +17,7 @@ use std::sync::Wait;
 const LOOKS: u32 = 100;
 
 /// The most pauses between two looks.
-const MOST_PAUSES: u32 = 512;
+const MOST_PAUSES: u32 = 2_048;
 
 /// What a pass knows. No value of it is made.
 pub struct View;
