@@ -47,6 +47,30 @@ pub fn tell_end(end: JobEnd, told: &mut Transcript) {
     told.add(&output.writer);
 }
 
+/// Adds what a session told that was driven through a seat. The version of the receipt that the seat was given.
+pub fn tell_ended(
+    ended: Result<(JobEnd, Option<u64>), AllocError>,
+    told: &mut Transcript,
+) -> Option<u64> {
+    match ended {
+        Ok((end, receipt)) => {
+            tell_end(end, told);
+            receipt
+        }
+        Err(_error) => {
+            told.lacks_memory();
+            None
+        }
+    }
+}
+
+/// Adds the version of a receipt, where one was given.
+pub fn tell_receipt(receipt: Option<u64>, told: &mut Transcript) {
+    if let Some(version) = receipt {
+        told.tell("receipt", &version);
+    }
+}
+
 /// Runs the job of a line over a store, and adds its reply.
 pub fn run_over(store: &mut MemoryStore, line: &str, told: &mut Transcript) {
     if let Some(job) = job_of(line, told) {

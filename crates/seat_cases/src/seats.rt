@@ -1,7 +1,7 @@
 //! The lines of a case at an open hub: what its seats ask for.
 
 use crate::endings::tell_finish;
-use crate::jobs::{job_of, tell_end};
+use crate::jobs::{job_of, tell_ended, tell_receipt};
 use crate::lines::Lines;
 use crate::rounds::tell_rounds;
 use crate::stores::{bytes_of, tell_put};
@@ -14,7 +14,7 @@ use std::sync::Wait;
 use std::thread::Threads;
 use store_core::MemoryStore;
 
-/// A hub and its seats, each at the place of its number. A place is empty while a thread has its seat.
+/// A hub and its seats, each at the place of its number. A place is empty while a thread or a worker has its seat.
 #[derive(Drop)]
 pub struct Room<J: Naming> {
     pub hub: Hub<J>,
@@ -29,6 +29,25 @@ impl<J: Naming> Room<J> {
             told.note(places.push(Some(Holder::new(told.alloc, seat))));
         }
         Room { hub, places }
+    }
+
+    /// Takes the seat of a place. A place without one is misspelled.
+    pub fn take(&mut self, place: usize, told: &mut Transcript) -> Option<Holder<J>> {
+        let found = match self.places.get_mut(place) {
+            Some(found) => found.take(),
+            None => None,
+        };
+        if found.is_none() {
+            told.misspelled();
+        }
+        found
+    }
+
+    /// Puts a seat back into its place.
+    pub fn put_back(&mut self, place: usize, holder: Holder<J>) {
+        if let Some(found) = self.places.get_mut(place) {
+            *found = Some(holder);
+        }
     }
 }
 
@@ -119,9 +138,8 @@ pub fn tell_call<J: Naming, R: Wait>(
         "log" if rest.is_empty() => told.tell("log", &holder.version()),
         "file" => tell_file(rt, hub, holder, rest, told),
         _ => {
-            if let Some(version) = tell_job(rt, hub, holder, line, told) {
-                told.tell("receipt", &version);
-            }
+            let receipt = tell_job(rt, hub, holder, line, told);
+            tell_receipt(receipt, told);
         }
     }
 }
@@ -223,14 +241,5 @@ pub fn tell_job<J: Naming, R: Wait>(
     told: &mut Transcript,
 ) -> Option<u64> {
     let job = job_of(line, told)?;
-    match holder.drive(rt, hub, job) {
-        Ok((end, receipt)) => {
-            tell_end(end, told);
-            receipt
-        }
-        Err(_error) => {
-            told.lacks_memory();
-            None
-        }
-    }
+    tell_ended(holder.drive(rt, hub, job), told)
 }

@@ -36,7 +36,7 @@ pub struct Done<J: Naming> {
     receipt: Option<u64>,
 }
 
-/// Takes the seat of a place for a thread. A place without one is misspelled.
+/// Takes the seat of a place for a thread.
 pub fn add_task<J: Naming>(
     tasks: &mut Vec<Task<J>>,
     room: &mut Room<J>,
@@ -44,17 +44,12 @@ pub fn add_task<J: Naming>(
     work: Work,
     told: &mut Transcript,
 ) {
-    let taken = match room.places.get_mut(place) {
-        Some(found) => found.take(),
-        None => None,
-    };
-    match taken {
-        Some(holder) => told.note(tasks.push(Task {
+    if let Some(holder) = room.take(place, told) {
+        told.note(tasks.push(Task {
             place,
             holder,
             work,
-        })),
-        None => told.misspelled(),
+        }));
     }
 }
 
@@ -115,9 +110,7 @@ pub fn tell_at_once<J: Naming + Send + Sync, R: Threads + Wait + Sync>(
         if let Some(version) = one.receipt {
             told.note(receipts.push(version));
         }
-        if let Some(place) = room.places.get_mut(one.place) {
-            *place = Some(one.holder);
-        }
+        room.put_back(one.place, one.holder);
     }
     tell_sorted(texts, receipts, told);
 }

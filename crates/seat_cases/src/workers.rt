@@ -3,7 +3,7 @@
 
 ghost use Rattle.lake_workers.specs.Following.{IsKnownAt};
 
-use crate::jobs::{job_of, tell_end};
+use crate::jobs::{job_of, tell_ended, tell_receipt};
 use crate::seats::{Room, tell_at, tell_call};
 use case_seats::Holder;
 use case_words::{Transcript, head};
@@ -14,25 +14,6 @@ use std::sync::Wait;
 use table_jobs::{Job, JobEnd, StreamJob};
 use table_log::Loaded;
 
-/// Takes the seat of a place. A place without one is misspelled.
-fn taken<J: Naming>(room: &mut Room<J>, place: usize, told: &mut Transcript) -> Option<Holder<J>> {
-    let found = match room.places.get_mut(place) {
-        Some(found) => found.take(),
-        None => None,
-    };
-    if found.is_none() {
-        told.misspelled();
-    }
-    found
-}
-
-/// Puts a seat back into its place.
-fn put_back<J: Naming>(room: &mut Room<J>, place: usize, holder: Holder<J>) {
-    if let Some(found) = room.places.get_mut(place) {
-        *found = Some(holder);
-    }
-}
-
 /// Runs the items of a worker at a seat: `ITEM | ITEM ..`.
 pub fn tell_works<J: Naming, R: Wait>(
     rt: &R,
@@ -41,7 +22,7 @@ pub fn tell_works<J: Naming, R: Wait>(
     items: &str,
     told: &mut Transcript,
 ) {
-    let Some(mut holder) = taken(room, place, told) else {
+    let Some(mut holder) = room.take(place, told) else {
         return;
     };
     let mut known = Loaded::new(told.alloc);
@@ -55,7 +36,7 @@ pub fn tell_works<J: Naming, R: Wait>(
             tell_work(rt, &room.hub, &mut holder, &mut known, item, false, told);
         }
     }
-    put_back(room, place, holder);
+    room.put_back(place, holder);
 }
 
 /// Runs a stream's job by what is known of the log, with its file prepared before or not, and adds what is told.
@@ -79,22 +60,15 @@ fn tell_work<J: Naming, R: Wait>(
     } else {
         None
     };
-    match holder.work(rt, hub, known, job, file) {
+    let ended = match holder.work(rt, hub, known, job, file) {
         Ok((answer, receipt)) => {
-            let nothing = Loaded::new(told.alloc);
-            tell_end(
-                JobEnd::Streamed(SinkEnd {
-                    known: nothing,
-                    answer,
-                }),
-                told,
-            );
-            if let Some(version) = receipt {
-                told.tell("receipt", &version);
-            }
+            let known = Loaded::new(told.alloc);
+            Ok((JobEnd::Streamed(SinkEnd { known, answer }), receipt))
         }
-        Err(_error) => told.lacks_memory(),
-    }
+        Err(error) => Err(error),
+    };
+    let receipt = tell_ended(ended, told);
+    tell_receipt(receipt, told);
 }
 
 /// The file of a job's batch, prepared for the table's schema, as far as that is known; why it isn't is told.
@@ -143,7 +117,7 @@ pub fn tell_appends<J: Naming, R: Wait>(
 ) {
     let (count, application) = head(words);
     let count = told.number(count);
-    let Some(mut holder) = taken(room, place, told) else {
+    let Some(mut holder) = room.take(place, told) else {
         return;
     };
     let mut known = Loaded::new(told.alloc);
@@ -163,7 +137,7 @@ pub fn tell_appends<J: Naming, R: Wait>(
     }
     told.heed(&last);
     told.add(last.bytes());
-    put_back(room, place, holder);
+    room.put_back(place, holder);
 }
 
 /// Drives the session of a line's job, while another seat does what a line says in front of one of its calls: `M C LINE
@@ -179,14 +153,14 @@ pub fn tell_amid<J: Naming, R: Wait>(
     let (at, lines) = head(words);
     let other = told.number(other) as usize;
     let at = told.number(at);
-    let Some(mut holder) = taken(room, place, told) else {
+    let Some(mut holder) = room.take(place, told) else {
         return;
     };
-    if let Some(mut rival) = taken(room, other, told) {
+    if let Some(mut rival) = room.take(other, told) {
         tell_both(rt, &room.hub, &mut holder, &mut rival, at, lines, told);
-        put_back(room, other, rival);
+        room.put_back(other, rival);
     }
-    put_back(room, place, holder);
+    room.put_back(place, holder);
 }
 
 /// Drives the session of the first line's job, while the rival does what the second one says in front of the call of
@@ -216,13 +190,6 @@ fn tell_both<J: Naming, R: Wait>(
     if call <= at {
         told.misspelled();
     }
-    match ended {
-        Ok((end, receipt)) => {
-            tell_end(end, told);
-            if let Some(version) = receipt {
-                told.tell("receipt", &version);
-            }
-        }
-        Err(_error) => told.lacks_memory(),
-    }
+    let receipt = tell_ended(ended, told);
+    tell_receipt(receipt, told);
 }
