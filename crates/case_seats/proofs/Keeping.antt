@@ -7,9 +7,14 @@ use Rattle.log_hub.specs.Seats.{log_seen}
 use Rattle.log_hub.specs.Sights.{Seen}
 use Rattle.log_hub.specs.declared.receipt.Receipt.{Receipt}
 use Rattle.table_log.specs.declared.loading.Loaded.{Loaded}
+use Rattle.table_model.specs.declared.reading.Offset.{Offset}
+use Rattle.log_reading.specs.declared.log_cache.LogCache.{LogCache}
+use Rattle.log_rows.specs.declared.read_state.ReadRows.{ReadRows}
+use Rattle.log_rows.specs.declared.tail_fault.TailFault.{TailFault}
 use Rattle.sink_core.specs.SinkSessions.{SinkJob}
 use Rattle.lake_workers.specs.Driving.{IsReceiptOf}
 use Rattle.lake_workers.specs.Following.{IsStreamRun}
+use Rattle.lake_workers.specs.Reading.{IsReadRun}
 use Rattle.lake_workers.specs.declared.streaming.StreamEnd.{StreamEnd}
 use Rattle.case_seats.specs.Keeping.{AreKept}
 
@@ -60,6 +65,12 @@ ran_on job old new earlier later end (inr short) = short.followed.log
 pub ran_shown : (job : SinkJob) (old new : Seen) (earlier later : Loaded) (end : StreamEnd) (r : Receipt) → IsStreamRun job old new earlier later end → end.receipt ≡ Some r → slice_get (log_seen new) r.version ≡ Some r.commit.value.items
 ran_shown job old new earlier later end r (inl ran) is = (subst (λ (found : Option Receipt). IsReceiptOf ran.driven.made new found) is ran.driven.created).1
 ran_shown job old new earlier later end r (inr short) is = let wrong : None ≡ Some r = sym short.receipt ∙ is in absurd cc
+
+-- ---- a read by what is known of the log
+
+pub read_on : (place : Offset) (max : ℕ) (old new : Seen) (earlier later : LogCache) (answer : Result ReadRows TailFault) → IsReadRun place max earlier later old new answer → IsFrontOf (log_seen old) (log_seen new)
+read_on place max old new earlier later answer (inl rows) = rows.log
+read_on place max old new earlier later answer (inr short) = short.followed.log
 
 -- ---- the receipts of all seats
 

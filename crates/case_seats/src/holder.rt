@@ -4,11 +4,15 @@ ghost use Rattle.std.specs.Prelude.{IfOk};
 ghost use Rattle.log_hub.specs.Finishing.{AreInLog};
 ghost use Rattle.log_hub.specs.Seats.{log_seen};
 ghost use Rattle.lake_workers.specs.Following.{IsKnownAt};
+ghost use Rattle.lake_workers.specs.Reading.{IsLogKnownAt};
 
 use crate::names::is_beside;
-use lake_workers::{Driven, Prepared, StreamEnd, drive_with, run_stream};
+use lake_workers::{Driven, Prepared, StreamEnd, drive_with, run_read, run_stream};
 use log_hub::{Hub, Naming, Receipt, Seat, the_log_of_a_seat_only_grows};
+use log_reading::LogCache;
+use session_core::Request;
 use sink_core::{SinkFault, SinkOutcome};
+use source_core::{Offset, ReadRows, TailFault};
 use std::alloc::{AllocError, Global};
 use std::sync::Wait;
 use store_core::{Names, Put};
@@ -103,11 +107,11 @@ impl<J: Naming> Holder<J> {
         hub: &Hub<J>,
         job: Job<'_>,
     ) -> Result<(JobEnd, Option<u64>), AllocError> {
-        self.drive_amid(rt, hub, job, || {})
+        self.drive_amid(rt, hub, job, |_request| {})
     }
 
-    /// The same, but that something is done in front of each of its calls.
-    pub fn drive_amid<R: Wait, F: FnMut()>(
+    /// The same, but that something is done in front of each of its calls, which is shown.
+    pub fn drive_amid<R: Wait, F: FnMut(&Request)>(
         &mut self,
         rt: &R,
         hub: &Hub<J>,
@@ -165,5 +169,20 @@ impl<J: Naming> Holder<J> {
             }
             None => Ok((answer, None)),
         }
+    }
+
+    /// Reads at most `max` rows from an offset on, by what is known of the log. What is handed out, or why nothing is.
+    pub fn read_rows<R: Wait>(
+        &mut self,
+        rt: &R,
+        hub: &Hub<J>,
+        cache: &mut LogCache,
+        place: Offset,
+        max: u64,
+    ) -> Result<ReadRows, TailFault>
+        requires { IsLogKnownAt self.old.seat cache.old.log cache.old.file }
+        ensures { IsLogKnownAt self.new.seat cache.new.log cache.new.file }
+    {
+        run_read(self.alloc, rt, hub, &mut self.seat, cache, place, max)
     }
 }

@@ -38,13 +38,13 @@ none_of_both : (a b : Bool) → (a || b) ≡ false → (a ≡ false) × (b ≡ f
 none_of_both true b is = absurd cc
 none_of_both false b is = (refl, is)
 
-answered_more : (talk : Talk) (asked : Asked) (told : Told) → has_lost talk ≡ false → is_lost told ≡ false → has_lost (talk ++ (asked, told) ∷ []) ≡ false
+pub answered_more : (talk : Talk) (asked : Asked) (told : Told) → has_lost talk ≡ false → is_lost told ≡ false → has_lost (talk ++ (asked, told) ∷ []) ≡ false
 answered_more [] asked told all one = ap (λ (b : Bool). b || false) one
 answered_more (call ∷ talk) asked told all one =
     let both = none_of_both (is_lost call.1) (has_lost talk) all in
     ap (λ (b : Bool). b || has_lost (talk ++ (asked, told) ∷ [])) both.0 ∙ answered_more talk asked told both.1 one
 
-answered_last : (talk : Talk) → has_lost talk ≡ false → ends_lost talk ≡ false
+pub answered_last : (talk : Talk) → has_lost talk ≡ false → ends_lost talk ≡ false
 answered_last [] all = refl
 answered_last (call ∷ []) all = (none_of_both (is_lost call.1) false all).0
 answered_last (call ∷ next ∷ talk) all = answered_last (next ∷ talk) (none_of_both (is_lost call.1) (has_lost (next ∷ talk)) all).1

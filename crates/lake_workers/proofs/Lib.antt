@@ -1,8 +1,11 @@
 mod Bearing
+mod GettingFiles
 mod Going
 mod Knowing
+mod LogCommits
 mod Making
 mod NewFiles
+mod ReadingRows
 mod Showing
 mod Standing
 mod Talking

@@ -26,7 +26,7 @@ asked_parts asks before (call ∷ talk) asked told all =
     let rest = asked_parts asks (before ++ call ∷ []) talk asked told all.1 in
     ((all.0, rest.0), subst (λ (t : Talk). asks t asked) (append_assoc before (call ∷ []) talk) rest.1)
 
-shown_with : (objects : Objects) (talk : Talk) (asked : Asked) (told : Told) → Shows talk objects → IsExact objects asked told → Shows (talk ++ (asked, told) ∷ []) objects
+pub shown_with : (objects : Objects) (talk : Talk) (asked : Asked) (told : Told) → Shows talk objects → IsExact objects asked told → Shows (talk ++ (asked, told) ∷ []) objects
 shown_with objects [] asked told shown one = (one, tt)
 shown_with objects (call ∷ talk) asked told shown one = (shown.0, shown_with objects talk asked told shown.1 one)
 

@@ -41,8 +41,8 @@ IsGivenFor None asked told = Unit {0}
 IsGivenFor (Some receipt) asked told = (asked ≡ put_commit receipt.version receipt.commit.value.items) × (told ≡ told_put Created)
 
 -- What a session was told of a call, which isn't lost: a talk goes on with it by the calls that the seat made, each of which but one
--- made the log that was seen longer; for want of memory maybe none was made. Commits may have been read before, as a put wants them. What may
--- stand then might stand before.
+-- made the log that was seen longer; for want of memory maybe none was made. Commits may have been read before, as a put wants them.
+-- What may stand then might stand before.
 pub record IsMade (old : Seen) (asked : Asked) (told : Told) (receipt : Option Receipt) (new : Seen) : Type 0 where
   pub made : History
   pub mine : new.mine ≡ old.mine ++ made

@@ -1,3 +1,4 @@
 pub mod Calls
 pub mod Driving
 pub mod Following
+pub mod Reading

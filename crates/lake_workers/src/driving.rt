@@ -11,7 +11,7 @@ ghost use Rattle.lake_workers.specs.Driving.{IsDriven};
 use crate::asking::ask;
 use crate::driven::Driven;
 use log_hub::{Hub, Naming, Seat};
-use session_core::{Session, Step};
+use session_core::{Request, Session, Step};
 use session_laws::what_a_session_may;
 use std::alloc::Global;
 use std::sync::Wait;
@@ -40,12 +40,12 @@ pub fn drive<'r, J: Naming, R: Wait>(
     ensures ended { is_ended session.new ≡ true }
     ensures same { job_of session.new ≡ job_of session.old }
 {
-    drive_with(alloc, rt, hub, seat, session, || {})
+    drive_with(alloc, rt, hub, seat, session, |_request| {})
 }
 
-/// The same, but that `before` is called in front of each request (no clause says that it is): a case lets another seat
-/// make its calls there.
-pub fn drive_with<'r, J: Naming, R: Wait, F: FnMut()>(
+/// The same, but that `before` is called in front of each request and is shown it (no clause says that it is): a case
+/// lets another seat make its calls there.
+pub fn drive_with<'r, J: Naming, R: Wait, F: FnMut(&Request)>(
     alloc: Global,
     rt: &R,
     hub: &Hub<J>,
@@ -70,7 +70,7 @@ pub fn drive_with<'r, J: Naming, R: Wait, F: FnMut()>(
         match session.next(reply) {
             Step::Done(end) => return Driven { end, receipt },
             Step::Ask(request) => {
-                before();
+                before(&request);
                 let answer = ask(alloc, rt, hub, seat, request);
                 reply = Some(answer.reply);
                 receipt = answer.receipt;

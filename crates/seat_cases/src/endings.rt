@@ -55,7 +55,7 @@ fn tell_refusal<J: Naming, R: Wait>(
 }
 
 /// Ends a hub with all seats and receipts, and adds what its log and its history have. The store that is left.
-fn tell_end<J: Naming, R: Wait>(
+pub fn tell_end<J: Naming, R: Wait>(
     rt: &R,
     room: Room<J>,
     tells_calls: bool,

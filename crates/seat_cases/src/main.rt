@@ -9,6 +9,10 @@
 //!
 //! - `put NAME HEX`: puts an object, unless its name stands: `created` or `exists`;
 //! - `script LINE`: runs the job of a script's line over the store, in one thread, and tells its reply;
+//! - `beside LINE | OTHER ..`: for each K from 0 on does a line's job twice over copies of the store: through a seat,
+//!   while another one does the jobs of the others in front of the session's call number K, and in one thread, with the
+//!   same in front of that call. `K` and the reply, where replies, calls and what is left are the same; else `K differs
+//!   in` which of them, and both. It ends where the session doesn't come to call K, told as `K alone` (`beside.rt`);
 //! - `open N`: opens a hub with so many seats, 1 to 64, over the store: `opened` and how many commits stand, or why the
 //!   store is refused; it stays then.
 //!
@@ -28,6 +32,8 @@
 //! - `K works ITEM | ITEM ..`: jobs of streams (`append`, `close`) one after the other, by what a worker at the seat
 //!   learns of the log, each told as by its own line; `prepared LINE` is an append whose file was prepared before, and
 //!   `M LINE` does what a line says at another seat in between (`workers.rt`);
+//! - `K follows ITEM | ITEM ..`: reads by what a worker at the seat learns of the log: `N` rows from where the last one
+//!   ended, at first from the beginning, or the line of a `tail`; `M LINE` as for `works` (`readers.rt`);
 //! - `K appends N APP`: so many appends without rows by such a worker, numbered from 0 on; what the last one told;
 //! - `threads K LINE | K LINE`: the same as `K LINE` by two threads at once, each through its own seat. Their replies
 //!   are told in the order of their bytes, and then their receipts in that of their versions (`threads.rt`);
@@ -38,9 +44,11 @@
 //! - `finish -1`: with one seat fewer, the last one: why it doesn't end. The hub and its seats stay.
 #![tactic(auto)]
 
+mod beside;
 mod endings;
 mod jobs;
 mod lines;
+mod readers;
 mod rounds;
 mod seats;
 mod stores;

@@ -3,6 +3,7 @@
 use crate::endings::tell_finish;
 use crate::jobs::{job_of, tell_ended, tell_receipt};
 use crate::lines::Lines;
+use crate::readers::tell_follows;
 use crate::rounds::tell_rounds;
 use crate::stores::{bytes_of, tell_put};
 use crate::threads::tell_two;
@@ -97,6 +98,7 @@ pub fn tell_seat<J: Naming, R: Wait>(
     let place = number as usize;
     match head(line) {
         ("works", items) => return tell_works(rt, room, place, items, told),
+        ("follows", items) => return tell_follows(rt, room, place, items, told),
         ("appends", words) => return tell_appends(rt, room, place, words, told),
         ("amid", words) => return tell_amid(rt, room, place, words, told),
         _ => {}

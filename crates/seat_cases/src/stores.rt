@@ -2,6 +2,7 @@
 
 ghost use Rattle.std.specs.Prelude.{◌≡◌, ◌<◌, ◌≤◌};
 
+use crate::beside::tell_beside;
 use crate::jobs::run_over;
 use crate::lines::Lines;
 use crate::seats::{Room, tell_seats};
@@ -43,6 +44,7 @@ fn tell_line<R: Threads + Wait + Sync>(
         }
         "put" => put_object(&mut store, rest, told),
         "script" => run_over(&mut store, rest, told),
+        "beside" => tell_beside(rt, &mut store, rest, told),
         "open" => return open(rt, store, rest, lines, told),
         "" => {}
         _ => told.misspelled(),

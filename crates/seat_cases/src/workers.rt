@@ -181,7 +181,7 @@ fn tell_both<J: Naming, R: Wait>(
         return;
     };
     let mut call = 0u64;
-    let ended = holder.drive_amid(rt, hub, job, || {
+    let ended = holder.drive_amid(rt, hub, job, |_request| {
         if call == at {
             tell_call(rt, hub, rival, aside, told);
         }

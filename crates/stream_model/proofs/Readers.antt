@@ -20,6 +20,7 @@ use Rattle.source_core.specs.SourceSessions.{HoldsLast, KnowsAll, SourceEnds, So
 use Rattle.log_rows.specs.declared.read_state.ReadRows.{ReadRows}
 use Rattle.log_rows.specs.declared.tail_fault.TailFault.{TailFault}
 use Rattle.source_core.specs.declared.source_session.ReadEnd.{ReadEnd}
+use Rattle.source_core.proofs.Callers.{shows_got}
 use Rattle.session_laws.specs.Readers.{next_told, rows_told}
 use Rattle.session_laws.specs.Rows.{ListsFirst, MayTellOfRead, TellsOfListed, WasListed, next_version}
 use Rattle.session_laws.specs.Jobs.{Job, Outcome, read, reads}
@@ -75,7 +76,7 @@ module _ (job : SourceJob) (before now : Talk) (end : ReadEnd) (handed : ReadRow
     goes_by = λ objects earlier shown. ends.goes_by objects earlier (any objects);
     past = λ objects earlier shown. ends.past objects earlier (any objects);
     kept = λ objects earlier shown. subst (KnowsAll job ((list_names, told_names names) ∷ []) objects end.known) (sym is) (subst (KnowsAll job now objects end.known) is (ends.kept objects earlier (any objects)));
-    file = λ objects earlier shown. ends.file objects earlier (any objects);
+    file = λ objects earlier borne. ends.file objects earlier (shows_got objects now (any objects));
     last = λ objects earlier shown. subst (λ (answer : Result ReadRows TailFault). HoldsLast ((list_names, told_names names) ∷ []) answer end.file) (sym is) (λ front name bytes same. absurd (none_got front name bytes same));
     few = λ objects earlier shown. omega arith;
   }
