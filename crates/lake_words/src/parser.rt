@@ -7,7 +7,7 @@ ghost use Rattle.lake_words.specs.Words.{commands};
 ghost use Rattle.lake_words.specs.Arguments.{app_in, rule_in, with_subcommands};
 
 use crate::arguments::{Argument, Kind};
-use crate::subcommands::{STATUSES, SUBCOMMANDS, Subcommand};
+use crate::subcommands::{STATUSES, SUBCOMMANDS, Subcommand, help_of};
 use clap::builder::ValueParser;
 use clap::{Arg, ArgAction, Command};
 use std::alloc::{AllocError, Global};
@@ -71,7 +71,7 @@ fn subcommand<'a>(alloc: Global, said: &Subcommand) -> Result<Command<'a>, Alloc
     let arguments = said.arguments;
     let mut command = Command::new(alloc, said.name)
         .about(said.about)
-        .after_help(said.help);
+        .after_help(help_of(said.name));
     for one in arguments {
         command = command.arg(argument(alloc, one))?;
     }

@@ -11,8 +11,6 @@ pub(crate) struct Subcommand {
     pub name: &'static str,
     /// What the list of commands says of it.
     pub about: &'static str,
-    /// What its help says behind its lists.
-    pub help: &'static str,
     pub arguments: &'static [Argument],
 }
 
@@ -169,71 +167,76 @@ const SCRIPT: &str =
      \n\
      Exit status: 0 each line was answered, 1 the input or the output failed, 2 `bad line N`.";
 
+/// What the help of a subcommand says behind its lists. It stands beside the table, since a law is computed over that.
+pub(crate) fn help_of(name: &str) -> &'static str {
+    match name {
+        "create" => CREATE,
+        "append" => APPEND,
+        "tail" => TAIL,
+        "snapshot" => SNAPSHOT,
+        "checkpoint" => CHECKPOINT,
+        "history" => HISTORY,
+        "check" => CHECK,
+        "explain" => EXPLAIN,
+        "script" => SCRIPT,
+        _ => STATUSES,
+    }
+}
+
 pub(crate) const SUBCOMMANDS: &[Subcommand] = &[
     Subcommand {
         name: "create",
         about: "Create a table in a folder",
-        help: CREATE,
         arguments: &[DIR, ID, SCHEMA, AT],
     },
     Subcommand {
         name: "append",
         about: "Append the rows on standard input as a batch",
-        help: APPEND,
         arguments: &[DIR, APP, NUMBER, ROWS, AT, TRIES, NO_CHECKPOINT],
     },
     Subcommand {
         name: "close",
         about: "Close an application's stream",
-        help: STATUSES,
         arguments: &[DIR, APP, AT, TRIES, NO_CHECKPOINT],
     },
     Subcommand {
         name: "load",
         about: "Append the batches on standard input (not yet)",
-        help: STATUSES,
         arguments: &[DIR, WORKERS, AT, TRIES, NO_CHECKPOINT],
     },
     Subcommand {
         name: "tail",
         about: "Print rows from an offset on",
-        help: TAIL,
         arguments: &[DIR, FROM, MAX, NO_CHECKPOINT],
     },
     Subcommand {
         name: "snapshot",
         about: "Print the table's snapshot",
-        help: SNAPSHOT,
         arguments: &[DIR, NO_CHECKPOINT],
     },
     Subcommand {
         name: "checkpoint",
         about: "Put a checkpoint of the newest version",
-        help: CHECKPOINT,
         arguments: &[DIR, NO_CHECKPOINT],
     },
     Subcommand {
         name: "history",
         about: "Print what each version holds",
-        help: HISTORY,
         arguments: &[DIR, NO_CHECKPOINT],
     },
     Subcommand {
         name: "check",
         about: "Say whether the table is sound",
-        help: CHECK,
         arguments: &[DIR],
     },
     Subcommand {
         name: "explain",
         about: "Tell what a refusal means",
-        help: EXPLAIN,
         arguments: &[CODE],
     },
     Subcommand {
         name: "script",
         about: "Run the script on standard input",
-        help: SCRIPT,
         arguments: &[NO_CHECKPOINT],
     },
 ];
