@@ -192,17 +192,20 @@ def without_commit(files: Files) -> list[str]:
 
 
 def faults_of_check(program: Program, folder: Path) -> list[str]:
-    """A check tells the folder's table sound, with the count of its commits. Beside it lie just the leftovers and the
-    data files without a commit that are on the disk, and nothing else is told."""
+    """A check tells the folder's table sound, with the count of its commits, or that no table stands there. Beside it lie
+    just the leftovers and the data files without a commit that are on the disk, and nothing else is told."""
     files = contents(folder)
     ended = program.run(("check", "DIR"), folder)
-    sound = f"sound {sum(1 for name in files if COMMIT.fullmatch(name))}\n"
+    count = sum(1 for name in files if COMMIT.fullmatch(name))
+    wanted = (0, f"sound {count}\n") if count else (1, "refused K7 BadLog 0\n")
     faults = []
-    if (ended.status, ended.told) != (0, sound):
-        faults.append(f"check: status {ended.status} with {ended.told!r} {ended.said!r}, where {sound!r} was to come")
+    if (ended.status, ended.told) != wanted:
+        faults.append(f"check: status {ended.status} with {ended.told!r} {ended.said!r}, where {wanted!r} was to come")
     beside = [f"leftover {json.dumps(name)}" for name in left_behind(folder)]
     beside += [f"unnamed {json.dumps(name)}" for name in without_commit(files)]
-    if ended.said.splitlines() != beside:
+    said = ended.said.splitlines()
+    meaning = [] if count else [line for line in said[:1] if line.startswith("K7 BadLog: ")]
+    if said != meaning + beside or len(meaning) != (count == 0):
         faults.append(f"check: tells {ended.said[:500]!r} beside the table, and there are {beside[:5]} ({len(beside)})")
     return faults
 

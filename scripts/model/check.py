@@ -174,7 +174,7 @@ class Audit:
         return version, f"checkpoint {self.checkpoints[version][0]}: no commit"
 
     def verdict(self) -> list[str]:
-        """Whether the objects are sound, and else the least version that isn't, and why."""
+        """Whether the objects are sound, and else the least version that isn't, and why; or that no table stands there."""
         try:
             self.look()
         except TooLarge as large:
@@ -184,7 +184,9 @@ class Audit:
             is_of_checkpoint = str(reason).startswith("checkpoint ")
             return [f"unsound {len(self.log) - is_of_checkpoint}", str(reason)]
         found = self.behind()
-        return [f"sound {len(self.log)}"] if found is None else [f"unsound {found[0]}", found[1]]
+        if found is not None:
+            return [f"unsound {found[0]}", found[1]]
+        return [f"sound {len(self.log)}"] if self.log else ["refused K7 BadLog 0"]
 
 
 def lines_beside(objects: dict[str, bytes]) -> Iterator[str]:
@@ -213,8 +215,8 @@ def lines_beside(objects: dict[str, bytes]) -> Iterator[str]:
 
 
 def check_lines(objects: dict[str, bytes]) -> list[str]:
-    """What `check` tells: its verdict, its status, and what lies beside the table, or what a refusal means."""
+    """What `check` tells: its verdict, its status, what a refusal means, and what lies beside the table."""
     told = Audit(objects).verdict()
     status = 0 if told[0].startswith("sound ") else 1
-    beside = explained(told[0]) if told[0].startswith("refused ") else lines_beside(objects)
-    return [*told, f"status {status}", *beside]
+    beside = [] if told[0].startswith("refused P9 ") else lines_beside(objects)
+    return [*told, f"status {status}", *explained(told[0]), *beside]

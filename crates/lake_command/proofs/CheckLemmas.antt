@@ -15,13 +15,13 @@ use Rattle.folder_check.specs.declared.fault.CheckFault.{CheckFault}
 use Rattle.folder_check.specs.declared.fault.CheckFault.TheVariants.{Folder}
 use Rattle.lake_script.specs.declared.outputs.Output.{Output}
 use Rattle.lake_words.specs.Asked.{Work}
-use Rattle.lake_hints.specs.ErrorOutputs.{TellsText, TellsSome}
+use Rattle.lake_hints.specs.ErrorOutputs.{AreInTurn, TellsText, TellsSome}
 use Rattle.lake_hints.specs.Meanings.{IsMeaning}
 use Rattle.lake_hints.specs.declared.error_output.ErrorOutput.{ErrorOutput}
 use Rattle.lake_hints.proofs.Callers.{told_on}
-use Rattle.lake_command.specs.Checks.{IsBeside, IsJudged, IsNothing, IsOfTooLarge, IsOfVerdict, IsTextTold, IsTextUntold, IsUnjudged, status_of_verdict, too_large_text}
+use Rattle.lake_command.specs.Checks.{IsBeside, IsJudged, IsNothing, IsOfTooLarge, IsOfVerdict, IsTextTold, IsTextUntold, IsUnjudged, code_of_verdict, status_of_verdict, too_large_text}
 use Rattle.lake_command.specs.Endings.{EndsWith}
-use Rattle.lake_command.specs.ErrorTexts.{IsBesideTold, IsFailureTold, IsUnwrittenTold}
+use Rattle.lake_command.specs.ErrorTexts.{IsBesideTold, IsFailureTold, IsMeaningIn, IsUnwrittenTold}
 use Rattle.lake_command.specs.declared.exit.Exit.{Exit}
 use Rattle.lake_command.specs.declared.failure.Failure.TheVariants.{Loading}
 
@@ -34,6 +34,11 @@ pub beside_told : (is_steady : Type 0) (objects : Objects) (beside : Result (Vec
     → (is_steady → IfOk beside (λ lines. AreBeside objects (map string_bytes lines.items))) → IsBeside beside text → IsBesideTold is_steady objects text
 beside_told is_steady objects (Ok lines) text no_file lies is = inl (map string_bytes lines.items, lies, is)
 beside_told is_steady objects (Err fault) text no_file lies is = inr (fault, no_file, is)
+
+-- so it is behind another text
+beside_told_behind : (is_steady : Type 0) (objects : Objects) (beside : Result (Vec (String Global) Global) CheckFault) (P : List ℕ → Type 0) (text : List ℕ) → IfErr beside CheckTellsNoFile
+    → (is_steady → IfOk beside (λ lines. AreBeside objects (map string_bytes lines.items))) → AreInTurn P (IsBeside beside) text → AreInTurn P (IsBesideTold is_steady objects) text
+beside_told_behind is_steady objects beside P text no_file lies (front, rest, first, second, parts) = (front, rest, first, beside_told is_steady objects beside rest no_file lies second, parts)
 
 module _ {W E : Type 0} (contents : W → Option (List ℕ)) (contents_err : E → Option (List ℕ)) where
   cut_weaker : (P Q : List ℕ → Type 0) (old new : Output W) (exit : Exit) → ((text : List ℕ) → P text → Q text) → IsTextUntold contents P old new exit → IsTextUntold contents Q old new exit
@@ -73,12 +78,13 @@ module _ {W E : Type 0} (contents : W → Option (List ℕ)) (contents_err : E �
         ),
       )
 
-  -- a verdict is told, and what lies beside the table
+  -- a verdict is told, what it means, and what lies beside the table
   pub judged : (is_steady : Type 0) (objects : Objects) (verdict : Verdict) (beside : Result (Vec (String Global) Global) CheckFault) (old new : Output W) (err_old err_new : ErrorOutput E) (exit : Exit)
       → (is_steady → IsVerdictOf objects verdict) → IfErr beside CheckTellsNoFile → (is_steady → IfOk beside (λ lines. AreBeside objects (map string_bytes lines.items)))
-      → IsTextTold contents contents_err (IsOfVerdict verdict) (IsBeside beside) (status_of_verdict verdict) old new err_old err_new exit → IsJudged contents contents_err is_steady objects old new err_old err_new exit
+      → IsTextTold contents contents_err (IsOfVerdict verdict) (AreInTurn (IsMeaningIn (code_of_verdict verdict)) (IsBeside beside)) (status_of_verdict verdict) old new err_old err_new exit → IsJudged contents contents_err is_steady objects old new err_old err_new exit
   judged is_steady objects verdict beside old new err_old err_new exit is no_file lies told =
-      (verdict, is, beside_weaker (IsOfVerdict verdict) (IsBeside beside) (IsBesideTold is_steady objects) (status_of_verdict verdict) old new err_old err_new exit (λ text. beside_told is_steady objects beside text no_file lies) told)
+      let meaning = IsMeaningIn (code_of_verdict verdict) in
+      (verdict, is, beside_weaker (IsOfVerdict verdict) (AreInTurn meaning (IsBeside beside)) (AreInTurn meaning (IsBesideTold is_steady objects)) (status_of_verdict verdict) old new err_old err_new exit (λ text. beside_told_behind is_steady objects beside meaning text no_file lies) told)
 
   -- a data file that is told as too large leaves no verdict
   pub large_unjudged : (is_steady : Type 0) (objects : Objects) (name told : List ℕ) (faults_old faults_new : ℕ) (old new : Output W) (err_old err_new : ErrorOutput E) (exit : Exit)

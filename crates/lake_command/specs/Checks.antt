@@ -1,5 +1,5 @@
 -- How a check of the table in a folder ends: what it tells, and the exit status.
-use Rattle.std.specs.Prelude.{◌≡◌, ◌⊎◌, ◌++◌, ℕ, List, [], Option, Result, Ok, Err, String, Vec, true, codes, map, string_bytes}
+use Rattle.std.specs.Prelude.{◌≡◌, ◌⊎◌, ◌++◌, ◌==◌, ℕ, List, [], Option, Some, None, Result, Ok, Err, String, Vec, true, codes, map, string_bytes, if◌then◌else◌}
 use Rattle.std.specs.declared.alloc.Global.{Global}
 use Rattle.std.specs.Fmt.{decimal}
 use Rattle.std.specs.Io.KnownBytes.{Appends}
@@ -18,17 +18,26 @@ use Rattle.table_folder.specs.declared.fault.LoadFault.{LoadFault}
 use Rattle.lake_hints.specs.ErrorOutputs.{AreInTurn, TellsSome}
 use Rattle.lake_hints.specs.Meanings.{IsMeaning}
 use Rattle.lake_hints.specs.declared.error_output.ErrorOutput.{ErrorOutput}
-use Rattle.lake_command.specs.ErrorTexts.{IsBesideFault, IsBesideTold, IsFailureTold, IsUnwrittenTold, lines_text}
+use Rattle.lake_command.specs.ErrorTexts.{IsBesideFault, IsBesideTold, IsFailureTold, IsMeaningIn, IsUnwrittenTold, lines_text}
 use Rattle.lake_command.specs.declared.exit.Exit.{Exit}
 use Rattle.lake_command.specs.declared.failure.Failure.TheVariants.{Loading}
 
+-- what is told of a sound log of so many versions: where no commit stands there is no table, which is told as `history` tells it
+abbrev pub sound_text : (versions : ℕ) → List ℕ
+sound_text versions = if versions == 0 then with_newline (codes "refused K7 BadLog 0") else with_newline (codes "sound " ++ decimal versions)
+
 -- what is told of a verdict: so many versions, or the first unsound one, and in a line of its own why
 abbrev pub verdict_text : Verdict → List ℕ
-verdict_text (Sound versions) = with_newline (codes "sound " ++ decimal versions)
+verdict_text (Sound versions) = sound_text versions
 verdict_text (Unsound unsound) = with_newline (codes "unsound " ++ decimal unsound.version) ++ with_newline (reason_text unsound.reason)
 
+-- the code of the refusal that is told in place of a verdict
+abbrev pub code_of_verdict : Verdict → Option (List ℕ)
+code_of_verdict (Sound versions) = if versions == 0 then Some (codes "K7") else None
+code_of_verdict (Unsound unsound) = None
+
 abbrev pub status_of_verdict : Verdict → ℕ
-status_of_verdict (Sound versions) = 0
+status_of_verdict (Sound versions) = if versions == 0 then 1 else 0
 status_of_verdict (Unsound unsound) = 1
 
 -- what is told of a verdict
@@ -74,12 +83,12 @@ abbrev pub IsBeside : Result (Vec (String Global) Global) CheckFault → List �
 IsBeside (Ok lines) text = text ≡ lines_text (map string_bytes lines.items)
 IsBeside (Err fault) text = IsBesideFault fault text
 
--- A verdict is told, with its status; where the folder is steady it is that of its objects. What lies beside the table is told on
--- standard error, or why that isn't known.
+-- A verdict is told, with its status; where the folder is steady it is that of its objects. On standard error stands what the
+-- refusal means that is told in its place, if one is, and behind it what lies beside the table, or why that isn't known.
 abbrev pub IsJudged : {W E : Type 0} → (W → Option (List ℕ)) → (E → Option (List ℕ)) → (is_steady : Type 0) → Objects → (old new : Output W) → (err_old err_new : ErrorOutput E) → Exit → Type 0
 IsJudged contents contents_err is_steady objects old new err_old err_new exit =
     (verdict : Verdict) × (is_steady → IsVerdictOf objects verdict)
-    × IsTextTold contents contents_err (IsOfVerdict verdict) (IsBesideTold is_steady objects) (status_of_verdict verdict) old new err_old err_new exit
+    × IsTextTold contents contents_err (IsOfVerdict verdict) (AreInTurn (IsMeaningIn (code_of_verdict verdict)) (IsBesideTold is_steady objects)) (status_of_verdict verdict) old new err_old err_new exit
 
 -- No verdict is told, and the status is 1: a data file is told as too large to be read, over a steady folder one that is, and on
 -- standard error what that means; or nothing is told on the output, since a call of the folder failed or a growth was refused, and

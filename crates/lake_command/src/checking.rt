@@ -1,16 +1,16 @@
 //! Whether the table in a folder is sound, told, and the exit status.
-ghost use Rattle.std.specs.Prelude.{◌≡◌, Err, IfOk, OnErr, OnOk, codes, map, true};
+ghost use Rattle.std.specs.Prelude.{◌≡◌, Err, IfOk, OnErr, OnOk, codes, map, option_map, true};
 ghost use Rattle.std.specs.Io.KnownBytes.{Appends};
 ghost use Rattle.std.specs.String.{string_bytes};
 ghost use Rattle.lake_script.specs.Streams.{held, write_failed, WritesFront};
-ghost use Rattle.lake_hints.specs.ErrorOutputs.{TellsText, TellsSome};
+ghost use Rattle.lake_hints.specs.ErrorOutputs.{AreInTurn, TellsText, TellsSome};
 ghost use Rattle.lake_hints.specs.Meanings.{IsMeaning};
-ghost use Rattle.lake_command.specs.Checks.{TellsCheck, IsBeside, IsNothing, IsOfVerdict, IsTextTold, status_of_verdict, too_large_text};
-ghost use Rattle.lake_command.specs.ErrorTexts.{IsBesideFault, lines_text};
+ghost use Rattle.lake_command.specs.Checks.{TellsCheck, IsBeside, IsNothing, IsOfVerdict, IsTextTold, code_of_verdict, sound_text, status_of_verdict, too_large_text};
+ghost use Rattle.lake_command.specs.ErrorTexts.{IsBesideFault, IsMeaningIn, lines_text};
 
 use crate::exit::{DONE, Exit, REFUSED};
 use crate::failure::Failure;
-use crate::telling::{not_written, tell_failure};
+use crate::telling::{explain_code, not_written, tell_failure};
 use folder_check::{CheckFault, FolderReader, Progress, Report};
 use lake_hints::{ErrorOutput, explain};
 use lake_script::{Output, OutputError};
@@ -20,9 +20,10 @@ use table_audit::Verdict;
 use table_folder::Folder;
 
 /// Judges the table in a folder, and tells the verdict: `sound N`, with N versions and the status 0, or `unsound V` and
-/// a line that says why, with the status 1. What lies beside the table is told on `err`, a line each, and why the
-/// folder isn't judged as well, but for a data file that is too large to be read, which is told where the verdict would
-/// be. Commits, the data files of batches and checkpoints are read, one at a time; nothing is written.
+/// a line that says why, with the status 1. Where no commit stands and nothing is unsound, there is no table, and
+/// `refused K7 BadLog 0` is told in place of it, with the status 1. What lies beside the table is told on `err`, a line
+/// each, and why the folder isn't judged as well, but for a data file that is too large to be read, which is told where
+/// the verdict would be. Commits, the data files of batches and checkpoints are read, one at a time; nothing is written.
 pub fn check_command<F: Folder, P: Progress, W: Write, E: Write>(
     alloc: Global,
     reader: &mut FolderReader<F, P>,
@@ -43,17 +44,19 @@ pub fn check_command<F: Folder, P: Progress, W: Write, E: Write>(
     }
 }
 
-/// Tells a verdict and what lies beside the table.
+/// Tells a verdict, what it means where it is a refusal, and what lies beside the table.
 fn tell_report<W: Write, E: Write>(
     alloc: Global,
     report: &Report,
     output: &mut Output<W>,
     err: &mut ErrorOutput<E>,
 ) -> Exit
-    ensures { IsTextTold W.contents E.contents (IsOfVerdict report.now.verdict) (IsBeside report.now.beside)
+    ensures { IsTextTold W.contents E.contents (IsOfVerdict report.now.verdict)
+        (AreInTurn (IsMeaningIn (code_of_verdict report.now.verdict)) (IsBeside report.now.beside))
         (status_of_verdict report.now.verdict) output.old output.new err.old err.new result }
 {
     let exit = tell_verdict(alloc, &report.verdict, output, err);
+    explain_code(code_of_verdict(&report.verdict), err);
     tell_beside(&report.beside, err);
     exit
 }
@@ -79,7 +82,7 @@ fn text_of(alloc: Global, verdict: &Verdict) -> Result<String, AllocError>
     ensures { IfOk result (λ text. IsOfVerdict verdict.now (string_bytes text)) }
 {
     match verdict {
-        Verdict::Sound { versions } => format!(in alloc; "sound {versions}\n"),
+        Verdict::Sound { versions } => sound_text(alloc, *versions),
         Verdict::Unsound(unsound) => {
             let why = format!(in alloc; "{}", unsound.reason)?;
             let version = unsound.version;
@@ -88,12 +91,32 @@ fn text_of(alloc: Global, verdict: &Verdict) -> Result<String, AllocError>
     }
 }
 
+/// What is told of a sound log of so many versions. One without a commit is no table's.
+fn sound_text(alloc: Global, versions: u64) -> Result<String, AllocError>
+    ensures { IfOk result (λ text. string_bytes text ≡ sound_text versions) }
+{
+    if versions == 0 {
+        return String::from_str(alloc, "refused K7 BadLog 0\n");
+    }
+    format!(in alloc; "sound {versions}\n")
+}
+
+/// The code of the refusal that is told in place of a verdict.
+fn code_of_verdict(verdict: &Verdict) -> Option<&'static str>
+    ensures { option_map (λ code. code.now) result ≡ code_of_verdict verdict.now }
+{
+    match verdict {
+        Verdict::Sound { versions } if *versions == 0 => Some("K7"),
+        _ => None,
+    }
+}
+
 fn status_of(verdict: &Verdict) -> u8
     ensures { result ≡ status_of_verdict verdict.now }
 {
     match verdict {
-        Verdict::Sound { .. } => DONE,
-        Verdict::Unsound(_) => REFUSED,
+        Verdict::Sound { versions } if *versions > 0 => DONE,
+        _ => REFUSED,
     }
 }
 

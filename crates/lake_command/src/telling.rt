@@ -189,7 +189,7 @@ fn explain_failure<E: Write>(failure: &Failure, err: &mut ErrorOutput<E>)
 }
 
 /// Tells what a code means, where there is one.
-fn explain_code<E: Write>(code: Option<&'static str>, err: &mut ErrorOutput<E>)
+pub(crate) fn explain_code<E: Write>(code: Option<&'static str>, err: &mut ErrorOutput<E>)
     ensures { TellsSome E.contents (IsMeaningIn (option_map (λ code. code.now) code.entry)) err.old err.new }
 {
     if let Some(code) = code {

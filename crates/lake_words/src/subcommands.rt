@@ -120,8 +120,9 @@ const CHECK: &str = help!(
        lake check orders\n\
      \n\
      Prints: sound N, where the log has N versions; or `unsound V` for the least version that breaks it, and a line\n\
-     that says why. What lies beside the table is told on standard error: leftovers of killed runs (`leftover`),\n\
-     data files that no commit adds (`unnamed`), other files (`stray`).\n\
+     that says why; or `refused K7 BadLog 0` where no table stands, as in a volume that isn't mounted. What lies\n\
+     beside the table is told on standard error: leftovers of killed runs (`leftover`), data files that no commit\n\
+     adds (`unnamed`), other files (`stray`).\n\
      Exit status: 0 sound, 1 unsound or refused (the reply says why), 2 words that can't be read."
 );
 
