@@ -219,6 +219,14 @@ def rowless(line: str) -> list[str]:
     return [f"note: the table takes no rows, since {which} none here"]
 
 
+def empty(command: Command, line: str) -> list[str]:
+    """The note that a batch without rows uses up its number, where the words don't say how many rows it has."""
+    if command.name != "append" or "rows" in command.options or json_value(line.split(" ", 4)[4]):
+        return []
+    rest = "is used up by a batch without rows (--rows N refuses such an input)"
+    return [f"note: the input had no rows: the number {int(command.places[1])} {rest}"]
+
+
 class Folder:
     """A table's folder: its files, and what commands tell of them."""
 
@@ -250,7 +258,7 @@ class Folder:
         if fault is not None:
             return ["status 1", f"refused F2 NotSaved {fault}", *explained("refused F2")]
         if not told or not told[-1].startswith("refused "):
-            return [*told, "status 0", *rowless(line)]
+            return [*told, "status 0", *rowless(line), *empty(command, line)]
         hints = [*limit_passed(told[-1], line), *schema_flaw(told[-1], line)]
         return [*told, "status 1", *explained(told[-1]), *hints]
 

@@ -15,7 +15,7 @@ use Rattle.lake_words.specs.Asked.{Work}
 use Rattle.lake_hints.specs.ErrorOutputs.{AreInTurn, TellsSome}
 use Rattle.lake_hints.specs.Hints.{IsRefusalHint}
 use Rattle.lake_hints.specs.Meanings.{IsMeaningOf}
-use Rattle.lake_hints.specs.Rowless.{IsRowlessNote, creates_rowless}
+use Rattle.lake_hints.specs.Notes.{IsNoteOf, is_noted}
 use Rattle.lake_hints.specs.declared.error_output.ErrorOutput.{ErrorOutput}
 use Rattle.lake_hints.proofs.Callers.{told_behind, told_in_turn}
 use Rattle.lake_command.specs.Codes.{code_in}
@@ -70,22 +70,22 @@ module _ {W E : Type 0} (contents : W → Option (List ℕ)) (contents_err : E �
   -- ---- a failure
 
   -- what stands on the output stays, whatever is told behind it
-  written_behind : (work : Work) (failure : Failure) (old new : Output W) (err_old between err_new : ErrorOutput E) → IsTextWritten contents (output_of (Err failure)) true old new err_old between
-      → IsTextWritten contents (output_of (Err failure)) (is_explained work (Err failure)) old new err_old err_new
-  written_behind work (failures.BadLine number flaw) old new err_old between err_new written = (written.0, λ no. absurd cc)
-  written_behind work failures.Memory old new err_old between err_new written = (written.0, λ no. absurd cc)
-  written_behind work failures.Misused old new err_old between err_new written = written
-  written_behind work failures.NotRead old new err_old between err_new written = written
-  written_behind work (failures.Miscounted rows found) old new err_old between err_new written = written
-  written_behind work (failures.Loading fault) old new err_old between err_new written = written
-  written_behind work (failures.Saving fault) old new err_old between err_new written = written
+  written_behind : (work : Work) (rows : ℕ) (failure : Failure) (old new : Output W) (err_old between err_new : ErrorOutput E) → IsTextWritten contents (output_of (Err failure)) true old new err_old between
+      → IsTextWritten contents (output_of (Err failure)) (is_explained work rows (Err failure)) old new err_old err_new
+  written_behind work rows (failures.BadLine number flaw) old new err_old between err_new written = (written.0, λ no. absurd cc)
+  written_behind work rows failures.Memory old new err_old between err_new written = (written.0, λ no. absurd cc)
+  written_behind work rows failures.Misused old new err_old between err_new written = written
+  written_behind work rows failures.NotRead old new err_old between err_new written = written
+  written_behind work rows (failures.Miscounted said found) old new err_old between err_new written = written
+  written_behind work rows (failures.Loading fault) old new err_old between err_new written = written
+  written_behind work rows (failures.Saving fault) old new err_old between err_new written = written
 
   -- a failure is told
   pub failure_told : (work : Work) (rows : ℕ) (failure : Failure) (old new : Output W) (err_old between err_new : ErrorOutput E) (exit : Exit) → IsLineTold contents contents_err failure old new err_old between
       → TellsSome contents_err (AreInTurn (IsMeaningIn (code_in failure)) (λ hint. hint ≡ failure_hint failure)) between err_new → exit.status ≡ status_of_failure failure → exit.is_short ≡ is_want_of_memory failure
       → EndsWith contents contents_err work rows (Err failure) old new err_old err_new exit
   failure_told work rows failure old new err_old between err_new exit line rest status short = inl (record {
-    written = written_behind work failure old new err_old between err_new line.written;
+    written = written_behind work rows failure old new err_old between err_new line.written;
     err_told = told_behind contents_err _ err_old between err_new (failure_line failure) line.err_told rest;
     status = status;
     short = short;
@@ -112,10 +112,10 @@ module _ {W E : Type 0} (contents : W → Option (List ℕ)) (contents_err : E �
 
   -- one that doesn't is told
   pub reply_told : (work : Work) (rows : ℕ) (reply : LineReply) (old new : Output W) (err_old err_new : ErrorOutput E) (exit : Exit) → false ≡ refuses work reply
-      → Appends (held contents old) (contents new.writer) (reply_text reply) → (creates_rowless work ≡ false → err_new ≡ err_old) → TellsSome contents_err (IsRowlessNote (creates_rowless work)) err_old err_new
+      → Appends (held contents old) (contents new.writer) (reply_text reply) → (is_noted work rows ≡ false → err_new ≡ err_old) → TellsSome contents_err (IsNoteOf work rows) err_old err_new
       → exit.status ≡ 0 → exit.is_short ≡ replies.is_short_reply reply → EndsWith contents contents_err work rows (Ok reply) old new err_old err_new exit
   reply_told work rows reply old new err_old err_new exit not_refused told silent noted status short = inl (record {
-    written = (told, λ none. silent (right_false (refuses work reply) (creates_rowless work) none));
+    written = (told, λ none. silent (right_false (refuses work reply) (is_noted work rows) none));
     err_told = beside_reply work rows reply false err_old err_new not_refused noted;
     status = status ∙ ap (λ (b : Bool). if b then 1 else 0) not_refused;
     short = short;
@@ -126,7 +126,7 @@ module _ {W E : Type 0} (contents : W → Option (List ℕ)) (contents_err : E �
       → Appends (held contents old) (contents new.writer) (reply_text reply) → TellsSome contents_err (IsMeaningOf (reply_text reply)) err_old between → TellsSome contents_err (IsRefusalHint reply work rows) between err_new
       → exit.status ≡ 1 → exit.is_short ≡ replies.is_short_reply reply → EndsWith contents contents_err work rows (Ok reply) old new err_old err_new exit
   refusal_told work rows reply old new err_old between err_new exit refused told meaning hint status short = inl (record {
-    written = (told, λ none. absurd (left_true (refuses work reply) (creates_rowless work) refused none));
+    written = (told, λ none. absurd (left_true (refuses work reply) (is_noted work rows) refused none));
     err_told = beside_reply work rows reply true err_old err_new refused (told_in_turn contents_err (IsMeaningOf (reply_text reply)) (IsRefusalHint reply work rows) err_old between err_new meaning hint);
     status = status ∙ ap (λ (b : Bool). if b then 1 else 0) refused;
     short = short;

@@ -14,7 +14,7 @@ use Rattle.lake_script.specs.declared.outputs.OutputError.TheVariants as outputs
 use Rattle.lake_script.specs.declared.reply.LineReply.{LineReply}
 use Rattle.lake_words.specs.Asked.{Work}
 use Rattle.lake_hints.specs.ErrorOutputs.{TellsText, TellsSome}
-use Rattle.lake_hints.specs.Rowless.{creates_rowless}
+use Rattle.lake_hints.specs.Notes.{is_noted}
 use Rattle.lake_hints.specs.declared.error_output.ErrorOutput.{ErrorOutput}
 use Rattle.lake_command.specs.Again.{RanAsAsked}
 use Rattle.lake_command.specs.Answering.{IsAnswerOver}
@@ -47,12 +47,12 @@ is_short_outcome (Ok reply) = replies.is_short_reply reply
 is_short_outcome (Err failure) = is_want_of_memory failure
 
 -- Something may be told on standard error beside a text that is told where replies go: of a refusal what it means, of a bad
--- line what is wrong with it, and of a table that was created and takes no rows that it doesn't.
-abbrev pub is_explained : Work → Result LineReply Failure → Bool
-is_explained work (Ok reply) = refuses work reply || creates_rowless work
-is_explained work (Err Memory) = true
-is_explained work (Err (BadLine number flaw)) = true
-is_explained work (Err _) = false
+-- line what is wrong with it, and of a job that is done, and had so many rows, what its caller may not have meant.
+abbrev pub is_explained : Work → (rows : ℕ) → Result LineReply Failure → Bool
+is_explained work rows (Ok reply) = refuses work reply || is_noted work rows
+is_explained work rows (Err Memory) = true
+is_explained work rows (Err (BadLine number flaw)) = true
+is_explained work rows (Err _) = false
 
 -- With a text: it is on the output, behind what was there, and standard error is as it was unless something is told
 -- there. Without one the output is as it was.
@@ -62,7 +62,7 @@ IsTextWritten contents None is_explained old new err_old err_new = new ≡ old
 
 -- What came of a job, which had so many rows, is told on both outputs, and the status is its own.
 pub record IsToldWhole {W E : Type 0} (contents : W → Option (List ℕ)) (contents_err : E → Option (List ℕ)) (work : Work) (rows : ℕ) (outcome : Result LineReply Failure) (old new : Output W) (err_old err_new : ErrorOutput E) (exit : Exit) : Type 0 where
-  pub written : IsTextWritten contents (output_of outcome) (is_explained work outcome) old new err_old err_new
+  pub written : IsTextWritten contents (output_of outcome) (is_explained work rows outcome) old new err_old err_new
   pub err_told : TellsSome contents_err (IsErrText work rows outcome) err_old err_new
   pub status : exit.status ≡ status_of_outcome work outcome
   pub short : exit.is_short ≡ is_short_outcome outcome

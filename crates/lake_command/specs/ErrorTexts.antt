@@ -20,7 +20,7 @@ use Rattle.lake_words.specs.Asked.{Work}
 use Rattle.lake_hints.specs.ErrorOutputs.{AreInTurn, IsTextBehind}
 use Rattle.lake_hints.specs.Hints.{IsBadLineHint, IsRefusalHint, hint_of}
 use Rattle.lake_hints.specs.Meanings.{IsMeaning, IsMeaningOf}
-use Rattle.lake_hints.specs.Rowless.{IsRowlessNote, creates_rowless}
+use Rattle.lake_hints.specs.Notes.{IsNoteOf}
 use Rattle.lake_command.specs.Codes.{code_in}
 use Rattle.lake_command.specs.Failures.{failure_text}
 use Rattle.lake_command.specs.Status.{refuses}
@@ -54,10 +54,10 @@ abbrev pub IsFailureTold : Failure → List ℕ → Type 0
 IsFailureTold failure = IsTextBehind (failure_line failure) (AreInTurn (IsMeaningIn (code_in failure)) (λ hint. hint ≡ failure_hint failure))
 
 -- Of a reply to a job, which had so many rows: where it refuses the job what it means, and which limit was passed or how the
--- schema is none; else at most that the table takes no rows.
+-- schema is none; else at most that the table takes no rows, or that a batch without rows uses up its number.
 abbrev pub IsBesideReply : Work → (rows : ℕ) → LineReply → (refuses : Bool) → List ℕ → Type 0
 IsBesideReply work rows reply true = AreInTurn (IsMeaningOf (reply_text reply)) (IsRefusalHint reply work rows)
-IsBesideReply work rows reply false = IsRowlessNote (creates_rowless work)
+IsBesideReply work rows reply false = IsNoteOf work rows
 
 -- of what comes of a job
 abbrev pub IsErrText : Work → (rows : ℕ) → Result LineReply Failure → List ℕ → Type 0

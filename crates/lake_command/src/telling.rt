@@ -19,7 +19,7 @@ use crate::answering::answer;
 use crate::exit::{DONE, Exit, MISUSED, REFUSED};
 use crate::explaining::code_of;
 use crate::failure::Failure;
-use lake_hints::{ErrorOutput, explain, explain_reply, hint_reason, hint_refusal, note_rowless};
+use lake_hints::{ErrorOutput, explain, explain_reply, hint_reason, hint_refusal, note_done};
 use lake_script::{Fault, Input, LineReply, Output, OutputError, RefusalText};
 use lake_words::{Job, TableCommand};
 use std::alloc::Global;
@@ -79,7 +79,7 @@ fn tell<W: Write, E: Write>(
         return not_written(error, is_short, err);
     }
     if !is_refused(reply, job) {
-        note_rowless(alloc, job, err);
+        note_done(alloc, job, rows, err);
         return Exit {
             status: DONE,
             is_short,

@@ -1,5 +1,5 @@
 -- What is told on standard error, put together.
-use Rattle.std.proofs.Common.{◌≡◌, ◌++◌, ℕ, Bool, true, false, List, [], Option, refl}
+use Rattle.std.proofs.Common.{◌≡◌, ◌++◌, ◌||◌, ℕ, Bool, true, false, List, [], Option, refl}
 use Rattle.std.proofs.KnownBytes.{Appends-nil, Appends-trans}
 use Rattle.lake_hints.specs.ErrorOutputs.{AreInTurn, IsTextBehind, TellsText, TellsSome, error_write_failed}
 use Rattle.lake_hints.specs.declared.error_output.ErrorOutput.{ErrorOutput}
@@ -8,6 +8,11 @@ use Rattle.lake_hints.specs.declared.error_output.ErrorOutput.{ErrorOutput}
 unbroken : (old new : Bool) → (old ≡ true → new ≡ true) → new ≡ false → old ≡ false
 unbroken false new kept none = refl
 unbroken true new kept none = let is = kept refl in cc
+
+-- where nothing of two kinds is told, nothing of each is
+pub left_silent : (a b : Bool) → (a || b) ≡ false → (a ≡ false) × (b ≡ false)
+left_silent false b none = (refl, none)
+left_silent true b none = absurd cc
 
 module _ {E : Type 0} (contents : E → Option (List ℕ)) where
   pub told_nothing : (err : ErrorOutput E) → TellsText contents err err []

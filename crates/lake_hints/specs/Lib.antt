@@ -1,4 +1,5 @@
 pub mod ErrorOutputs
 pub mod Hints
 pub mod Meanings
+pub mod Notes
 pub mod Rowless

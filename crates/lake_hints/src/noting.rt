@@ -1,6 +1,8 @@
-//! What is told of a table that was created and takes no rows.
-ghost use Rattle.std.specs.Prelude.{◌≡◌, IfSome, false, true};
-ghost use Rattle.lake_hints.specs.ErrorOutputs.{TellsSome};
+//! What is told of a job that is done: that a table which was created takes no rows, and that a batch without rows uses
+//! up its number.
+ghost use Rattle.std.specs.Prelude.{◌≡◌, IfSome, false, is_some, true};
+ghost use Rattle.lake_hints.specs.ErrorOutputs.{TellsText, TellsSome};
+ghost use Rattle.lake_hints.specs.Notes.{IsNoteOf, empty_note, is_noted, number_used_up};
 ghost use Rattle.row_core.specs.Unsupported.{has_values};
 ghost use Rattle.schema_tree.specs.Reading.{schema_of};
 ghost use Rattle.lake_words.specs.Asked.{work_view};
@@ -18,9 +20,46 @@ use std::io::Write;
 /// How many columns without rows are named.
 const MOST_NAMED: u64 = 10;
 
+/// Tells of a job that is done, and had so many rows, what its caller may not have meant: of a table that takes no rows
+/// which of its columns are of a type that has none, and of an append without rows, whose words don't say so, that its
+/// number is used up. Takes time linear in the schema's text.
+pub fn note_done<E: Write>(alloc: Global, job: Job<'_>, rows: u64, err: &mut ErrorOutput<E>)
+    ensures silent { is_noted (work_view job.entry) rows ≡ false → err.new ≡ err.old }
+    ensures told { TellsSome E.contents (IsNoteOf (work_view job.entry) rows) err.old err.new }
+{
+    note_rowless(alloc, job, err);
+    note_empty(number_used_up(job, rows), err)
+}
+
+/// Tells that a batch without rows uses up this number, where one does.
+fn note_empty<E: Write>(used_up: Option<u64>, err: &mut ErrorOutput<E>)
+    ensures silent { is_some used_up ≡ false → err.new ≡ err.old }
+    ensures told { TellsText E.contents err.old err.new (empty_note used_up) }
+{
+    if let Some(number) = used_up {
+        err.say(format_args!(
+            "note: the input had no rows: the number {number} is used up by a batch without rows (--rows N refuses such an input)"
+        ));
+    }
+}
+
+/// The number that a batch without rows uses up, whose words don't say how many rows it has.
+fn number_used_up(job: Job<'_>, rows: u64) -> Option<u64>
+    ensures { result ≡ number_used_up (work_view job.entry) rows }
+{
+    match job {
+        Job::Append {
+            number,
+            rows: None,
+            ..
+        } if rows == 0 => Some(number),
+        _ => None,
+    }
+}
+
 /// Tells of a table that was created and takes no rows which of its columns are of a type that has none. Takes time
 /// linear in the schema's text.
-pub fn note_rowless<E: Write>(alloc: Global, job: Job<'_>, err: &mut ErrorOutput<E>)
+fn note_rowless<E: Write>(alloc: Global, job: Job<'_>, err: &mut ErrorOutput<E>)
     ensures silent { creates_rowless (work_view job.entry) ≡ false → err.new ≡ err.old }
     ensures told { TellsSome E.contents (IsRowlessNote (creates_rowless (work_view job.entry))) err.old err.new }
 {

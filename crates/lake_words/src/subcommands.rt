@@ -48,6 +48,7 @@ const APPEND: &str = help!(
      \n\
      Without --rows the input is taken as it is: one that is cut at a line's end is a smaller batch, and an empty\n\
      one is a batch without rows, which uses its number up; the whole batch is then S3 under that number for ever.\n\
+     Where a batch without rows stands then, a line `note: ..` on standard error says so.\n\
      With --rows N nothing is appended unless the input has just N rows, so a pipe whose producer died does no harm.\n\
      Without --at the batch states the moment 0, and a tool that drops old applications by `lastUpdated` may\n\
      drop this one.\n\
@@ -59,6 +60,17 @@ const APPEND: &str = help!(
      Prints: Committed VERSION, or Already NUMBER where the same rows stand under that number\n\
      Exit status: 0 the batch stands, 1 refused (the reply says why), 2 words or a line that can't be read\n  \
        (`bad line N` names the line), or another count of rows than --rows says; nothing was appended then."
+);
+
+const CLOSE: &str = help!(
+    "Closes the stream of the application APP: no new batch of it is taken any more. What stands stays, and the last\n\
+     batch is still told as standing. A stream can't be opened again.\n\
+     \n\
+     Example:\n  \
+       lake close orders shop-7 --at $(date +%s%3N)\n\
+     \n\
+     Prints: Closed VERSION, or AlreadyClosed where it was closed before\n\
+     Exit status: 0 the stream is closed, 1 refused (the reply says why), 2 words that can't be read."
 );
 
 const TAIL: &str = help!(
@@ -173,6 +185,7 @@ pub(crate) fn help_of(name: &str) -> &'static str {
     match name {
         "create" => CREATE,
         "append" => APPEND,
+        "close" => CLOSE,
         "tail" => TAIL,
         "snapshot" => SNAPSHOT,
         "checkpoint" => CHECKPOINT,
