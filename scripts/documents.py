@@ -249,13 +249,13 @@ def entries():
             sys.exit(f"{name}: {len(here)} entries can be read, of {size}")
         for code, kind, meaning, again, what in here:
             meaning, what = (re.sub(r"\\(.)", r"\1", it) for it in (meaning, what))  # as the code means them
-            found.append((code, kind, meaning, f"after {what}" if what else again.lower()))
+            found.append((code, kind, meaning, f"after {what}" if what else {"Always": "yes", "Never": "no"}[again]))
     return found
 
 
 def print_refusals(_):
     rows = ([f"`{code}`", f"`{name}`", meaning, again] for code, name, meaning, again in entries())
-    return table(["code", "name", "what it means", "the same call again"], rows)
+    return table(["code", "name", "what it means", "retry"], rows)
 
 
 def faults_of_refusals(_):
@@ -267,8 +267,8 @@ def faults_of_refusals(_):
         seen.add(code)
         if len(meaning) > LONGEST:
             yield f"refusal_texts: {code}: its meaning has {len(meaning)} characters, of at most {LONGEST}"
-        if any(re.search(r"[|\n]|^\s|[\s.]$", text) for text in (meaning, again)):
-            yield f"refusal_texts: {code}: a text fits no line of a table, or ends with a space or a full stop"
+        if any(re.search(r"[|\n]|^\s|[\s.]$|retry:", text) for text in (meaning, again)):
+            yield f"refusal_texts: {code}: a text fits no line of a table, ends with a space or a full stop, or says `retry:`"
     coded, explained = {entry[:2] for entry in entries()}, set(EXPLAINED.findall(text_of("docs/REFUSALS.md")))
     for code, name in sorted(explained - coded):
         yield f"docs/REFUSALS.md: it explains {code} {name}, which isn't in the code"

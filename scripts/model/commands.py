@@ -157,12 +157,16 @@ def script_lines(run: Run) -> list[str]:
 
 
 def explanation(words: list[str]) -> list[str]:
-    """What a code means, where a refusal has it."""
-    if len(words) != 1 or words[0].startswith("-"):
+    """What a code means, where a refusal has it, in upper or lower case; without one what each code means."""
+    if len(words) > 1 or words[:1] and words[0].startswith("-"):
         raise NotModelled("words that are refused")
-    if words[0] not in ENTRIES:
+    if not words:
+        return [*ENTRIES.values(), "status 0"]
+    first = re.split("[ \n]", words[0].removeprefix("refused "))[0]
+    alike = [code for code in ENTRIES if code.lower() == first.lower()]
+    if not alike:
         return ["status 2", f"error: no refusal has the code '{words[0]}'"]
-    return [ENTRIES[words[0]], "status 0"]
+    return [ENTRIES[alike[0]], "status 0"]
 
 
 def flaw(content: bytes) -> str:

@@ -12,7 +12,7 @@ def entries() -> dict[str, str]:
     """The line that explains each code."""
     with open(DOCUMENT, encoding="utf-8") as file:
         rows = ROW.findall(file.read())
-    return {code: f"{code} {name}: {meaning}. The same call again: {again}." for code, name, meaning, again in rows}
+    return {code: f"{code} {name}: {meaning}; retry: {again}" for code, name, meaning, again in rows}
 
 
 ENTRIES = entries()

@@ -53,6 +53,11 @@ def repeated(parts: list[bytes], times: int) -> bytes:
     return b"".join(str(count).encode().join(parts) for count in range(times))
 
 
+def words_of(text: str) -> list[str]:
+    """The words of a command line, in which `␣` stands for a space."""
+    return [word.replace("␣", " ") for word in text.split()]
+
+
 def script_cases(lines: list[str]) -> Iterator[ScriptCase]:
     """The cases of an input of scripts."""
     names: dict[str, bytes] = {}
@@ -76,7 +81,7 @@ def script_cases(lines: list[str]) -> Iterator[ScriptCase]:
             name = commit_name(int(name)) if word == "commit" else name
             case.objects.setdefault(name, script_text(names, text.removesuffix(" ")))
         elif case is not None and line.startswith(">> words"):
-            case.runs.append(Run(line.removeprefix(">> words").split(), bytearray(), []))
+            case.runs.append(Run(words_of(line.removeprefix(">> words")), bytearray(), []))
         elif case is not None and case.runs and line.startswith(">> stops "):
             case.runs[-1].stops.append(line.removeprefix(">> stops "))
         elif case is not None and line.startswith(">> "):

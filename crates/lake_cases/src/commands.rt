@@ -111,8 +111,18 @@ fn words_of(text: &str, told: &mut Transcript) -> Vec<String> {
     let name = told.copy_of("lake");
     told.note(words.push(name));
     for word in text.split_whitespace() {
-        let word = told.copy_of(word);
+        let word = word_of(word, told);
         told.note(words.push(word));
     }
     words
+}
+
+/// A word of a command line, in which `␣` stands for a space.
+fn word_of(text: &str, told: &mut Transcript) -> String {
+    let mut word = told.copy_of("");
+    for letter in text.chars() {
+        let letter = if letter == '␣' { ' ' } else { letter };
+        told.note(word.push(letter));
+    }
+    word
 }

@@ -1,9 +1,9 @@
 //! Scripts and command lines: each is run, and what came of it is told.
 //!
 //! A line `== NAME` begins a case. The lines behind it, up to the next such line, are its script, as they are; those
-//! that begin with `>> ` are directives instead (`Script::direct` of the library `case_calls` lists them). `>> let NAME
-//! TEXT` names a text for the cases behind it. What stands before the first case is a heading, of which only such names
-//! count.
+//! that begin with `>> ` are directives instead (`Script::direct` of the library `case_calls` lists them). In the words
+//! of a command line `␣` stands for a space. `>> let NAME TEXT` names a text for the cases behind it. What stands before
+//! the first case is a heading, of which only such names count.
 
 use crate::commands::tell_runs;
 use crate::plain::tell_plain;

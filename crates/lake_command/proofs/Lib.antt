@@ -5,6 +5,7 @@ pub mod CheckLemmas
 pub mod CountLemmas
 pub mod EndingLemmas
 pub mod FolderLemmas
+pub mod ExplainLemmas
 pub mod LineLemmas
 pub mod RunLemmas
 pub mod ScriptLemmas

@@ -1,7 +1,6 @@
 -- Whether a line of a text passes a test, by the lines that were looked at.
 use Rattle.std.proofs.Common.{◌≡◌, ℕ, ◌+◌, ◌<◌, ◌≤◌, Bool, true, false, List, [], ◌∷◌, ◌++◌, length, take, drop, get_or, refl, sym, ap, ◌∙◌, append-nil, append_assoc, arith}
-use Rattle.std.specs.Prelude.{◌||◌, String, map, string_bytes}
-use Rattle.std.specs.declared.alloc.Global.{Global}
+use Rattle.std.specs.Prelude.{◌||◌, map}
 use Rattle.std.specs.List.{list_any}
 use Rattle.std.proofs.lemmas.List.{map-append, take_more, take_all, take-append-drop}
 use Rattle.std.proofs.lemmas.List.Folds.{list_any-append}
@@ -36,13 +35,23 @@ lines_text_push : (lines : List (List ℕ)) (line : List ℕ) → lines_text (li
 lines_text_push [] line = append-nil (with_newline line)
 lines_text_push (first ∷ lines) line = ap (λ (rest : List ℕ). with_newline first ++ rest) (lines_text_push lines line) ∙ sym (append_assoc (with_newline first) (lines_text lines) (with_newline line))
 
-pub lines_more : (items : List (String Global)) (i : ℕ) (item : String Global) → i < length items → item ≡ get_or items i item
-    → lines_text (map string_bytes (take (i + 1) items)) ≡ lines_text (map string_bytes (take i items)) ++ with_newline (string_bytes item)
-lines_more items i item within here =
-    ap (λ (front : List (String Global)). lines_text (map string_bytes front)) (take_more items i item within ∙ ap (λ (x : String Global). take i items ++ x ∷ []) (sym here))
-    ∙ ap lines_text (map-append string_bytes (take i items) (item ∷ []))
-    ∙ lines_text_push (map string_bytes (take i items)) (string_bytes item)
+pub lines_next : {A : Type 0} (text_of : A → List ℕ) (items : List A) (i : ℕ) (default : A) → i < length items
+    → lines_text (map text_of (take (i + 1) items)) ≡ lines_text (map text_of (take i items)) ++ with_newline (text_of (get_or items i default))
+lines_next {A = A} text_of items i default within =
+    ap (λ (front : List A). lines_text (map text_of front)) (take_more items i default within)
+    ∙ ap lines_text (map-append text_of (take i items) (get_or items i default ∷ []))
+    ∙ lines_text_push (map text_of (take i items)) (text_of (get_or items i default))
+
+pub lines_more : {A : Type 0} (text_of : A → List ℕ) (items : List A) (i : ℕ) (item : A) → i < length items → item ≡ get_or items i item
+    → lines_text (map text_of (take (i + 1) items)) ≡ lines_text (map text_of (take i items)) ++ with_newline (text_of item)
+lines_more {A = A} text_of items i item within here =
+    lines_next text_of items i item within ∙ ap (λ (x : A). lines_text (map text_of (take i items)) ++ with_newline (text_of x)) (sym here)
 
 -- all were told
-pub lines_all : (items : List (String Global)) (i : ℕ) → length items ≤ i → lines_text (map string_bytes (take i items)) ≡ lines_text (map string_bytes items)
-lines_all items i whole = ap (λ (all : List (String Global)). lines_text (map string_bytes all)) (take_all i items whole)
+pub lines_all : {A : Type 0} (text_of : A → List ℕ) (items : List A) (i : ℕ) → length items ≤ i → lines_text (map text_of (take i items)) ≡ lines_text (map text_of items)
+lines_all {A = A} text_of items i whole = ap (λ (all : List A). lines_text (map text_of all)) (take_all i items whole)
+
+-- the lines of two lists, one behind the other
+pub lines_text_append : (one two : List (List ℕ)) → lines_text (one ++ two) ≡ lines_text one ++ lines_text two
+lines_text_append [] two = refl
+lines_text_append (line ∷ one) two = ap (λ (rest : List ℕ). with_newline line ++ rest) (lines_text_append one two) ∙ sym (append_assoc (with_newline line) (lines_text one) (lines_text two))

@@ -28,7 +28,7 @@ pub record DoesCommand {F R W E : Type 0} (path_of : F → List ℕ) (count_of :
   -- A check leaves the input alone, and tells a verdict with its status, or why it tells none. That it is right of the
   -- folder isn't claimed.
   pub checks : (folder : List ℕ) → SpellsJob words (check folder) → (input_new ≡ input_old) × ChecksDisk contents contents_err path_of count_of folder old new err_old err_new exit
-  -- What a code means is told, or that no refusal has it.
-  pub explains : (code : List ℕ) → SpellsJob words (explain code) → (input_new ≡ input_old) × Explains contents contents_err code old new err_old err_new exit
+  -- What a code means is told, or that no refusal has it; or what each code means.
+  pub explains : (asked : Option (List ℕ)) → SpellsJob words (explain asked) → (input_new ≡ input_old) × Explains contents contents_err asked old new err_old err_new exit
   -- Words that can't be read have the status of what is wrong with them, and run nothing.
   pub misread : fault_of commands words ≢ [] → AreMisread (fault_of commands words) input_old input_new old new exit

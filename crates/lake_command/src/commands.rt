@@ -144,7 +144,7 @@ fn table_on_disk<H: Files + AllocGlobal + Clone + Drop, R: Read, W: Write, E: Wr
 
 /// Runs the command that the words ask for: a script over a store in which nothing stands yet, or a job on the table in
 /// a folder on the disk, of which [`table_command`] tells what is claimed over any folder, or a check of one, of which
-/// [`check_command`] does, or it tells what a code means. Replies go to `output`. What `clap` says of the words, the
+/// [`check_command`] does, or it tells what refusals mean. Replies go to `output`. What `clap` says of the words, the
 /// program's own faults, why a line of a script is bad, what refusals mean and what lies beside a table go to `err`,
 /// and how far a check is to `progress`.
 pub fn command<
@@ -169,7 +169,7 @@ pub fn command<
     match read_words(alloc, words) {
         Ok(Command::Table(command)) => table_on_disk(rt, command, input, output, err),
         Ok(Command::Check { folder }) => check_on_disk(rt, folder, progress, output, err),
-        Ok(Command::Explain { code }) => explain_command(code, output, err),
+        Ok(Command::Explain { asked }) => explain_command(asked, output, err),
         Ok(Command::Script { use_checkpoints }) => {
             script_command(alloc, use_checkpoints, input, output, err)
         }

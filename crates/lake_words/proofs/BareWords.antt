@@ -1,5 +1,5 @@
 -- The words of the jobs that have no option but `--no-checkpoint`, and of `check` and `explain`, which have none.
-use Rattle.std.proofs.Common.{Bool, true, false, List, [], ◌∷◌, refl, codes}
+use Rattle.std.proofs.Common.{Bool, true, false, List, [], ◌∷◌, Some, None, refl, codes}
 use Rattle.clap.specs.Walk.{Text}
 use Rattle.clap.proofs.OnLiterals.{clap_on_literals}
 use Rattle.lake_words.specs.Asked.{table}
@@ -75,8 +75,14 @@ unfolding clap_on_literals
 explain_is_job = record { walked = refl; passes = refl; found = refl }
 
 -- explain CODE
-pub explain_read : (program code : Text) → IsArgumentValue code → AreRead (program ∷ codes "explain" ∷ code ∷ []) (asked.explain code)
+pub explain_read : (program code : Text) → IsArgumentValue code → AreRead (program ∷ codes "explain" ∷ code ∷ []) (asked.explain (Some code))
 unfolding clap_on_literals
 explain_read program code d =
     job_read program (codes "explain") (plain code ∷ []) (leaf words.explain) true _ explain_is_job (d, tt)
     (all_taken _ _ (next refl no_more) refl refl) (no_restore _ refl) refl
+
+-- explain
+pub explain_all_read : (program : Text) → AreRead (program ∷ codes "explain" ∷ []) (asked.explain None)
+unfolding clap_on_literals
+explain_all_read program =
+    job_read program (codes "explain") [] (leaf words.explain) true _ explain_is_job tt (all_taken _ _ no_more refl refl) (no_restore _ refl) refl

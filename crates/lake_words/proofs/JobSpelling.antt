@@ -1,10 +1,10 @@
--- The words that ask for a job, for a check or for what a refusal means are read as that.
+-- The words that ask for a job, for a check or for what refusals mean are read as that.
 use Rattle.std.proofs.Common.{List}
 use Rattle.clap.specs.Walk.{Text}
 use Rattle.lake_words.specs.Asked.{ProgramCommand}
-use Rattle.lake_words.specs.Spelling.{SpellsJob, append, check, checkpoint, close, create, explain, history, load, snapshot, tail}
+use Rattle.lake_words.specs.Spelling.{SpellsJob, append, check, checkpoint, close, create, explain, explain_all, history, load, snapshot, tail}
 use Rattle.lake_words.proofs.AppendWords.{append_read}
-use Rattle.lake_words.proofs.BareWords.{check_read, checkpoint_read, explain_read, history_read, snapshot_read}
+use Rattle.lake_words.proofs.BareWords.{check_read, checkpoint_read, explain_all_read, explain_read, history_read, snapshot_read}
 use Rattle.lake_words.proofs.CloseWords.{close_read}
 use Rattle.lake_words.proofs.CreateWords.{create_read}
 use Rattle.lake_words.proofs.JobWords.{AreRead}
@@ -22,3 +22,4 @@ job_words_read words asked (checkpoint d r) = checkpoint_read _ _ _ _ d r
 job_words_read words asked (history d r) = history_read _ _ _ _ d r
 job_words_read words asked (check d) = check_read _ _ d
 job_words_read words asked (explain d) = explain_read _ _ d
+job_words_read words asked explain_all = explain_all_read _

@@ -4,7 +4,7 @@ use Rattle.std.proofs.lemmas.Option.{same_Some}
 use Rattle.std.specs.Prelude.{bytes_eq, unwrap_or, option_and_then}
 use Rattle.std.specs.Option.{option_map_or}
 use Rattle.std.specs.Str.Parse.{ExplainsUnsignedError, HasUnsignedDigitsIfOk, ParsesUnsigned}
-use Rattle.clap.specs.Words.{Row, Text, ReadsOne, one_of}
+use Rattle.clap.specs.Words.{Row, Text, ReadsOne, first_of, one_of}
 use Rattle.lake_words.specs.Asked.{AsksFor, IsFlag, asked_by, check, explain, argument_number, command_view, script, table, text_in, work_of}
 use Rattle.lake_words.specs.declared.command.Command.{Command}
 use Rattle.lake_words.proofs.Numbers.{number_of_parsed}
@@ -57,7 +57,7 @@ pub check_asked : (name : Text) (rows : List Row) (use_checkpoints : Bool) → b
 check_asked name rows use_checkpoints is = rw is refl
 
 pub explain_asked : (name : Text) (rows : List Row) (use_checkpoints : Bool) → bytes_eq name (codes "check") ≡ false → bytes_eq name (codes "explain") ≡ true
-    → explain (text_in (codes "CODE") rows) ≡ asked_by name rows use_checkpoints
+    → explain (first_of (codes "CODE") rows) ≡ asked_by name rows use_checkpoints
 explain_asked name rows use_checkpoints no_check is = rw (no_check, is) refl
 
 pub other_asked : (name : Text) (rows : List Row) (use_checkpoints : Bool) → bytes_eq name (codes "check") ≡ false → bytes_eq name (codes "explain") ≡ false

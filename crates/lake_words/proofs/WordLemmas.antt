@@ -26,7 +26,7 @@ script_is : (c : Command) (use_checkpoints : Bool) → command_view c ≡ script
 script_is (Script r) use_checkpoints e = cc
 script_is (Table t) use_checkpoints e = cc
 script_is (Check folder) use_checkpoints e = cc
-script_is (Explain code) use_checkpoints e = cc
+script_is (Explain asked) use_checkpoints e = cc
 
 restoring_asks : (name : List ℕ) (c : Command) → AsksFor (subcommand_of commands (name ∷ codes "script" ∷ [])) c → c ≡ Script true
 unfolding clap_on_literals

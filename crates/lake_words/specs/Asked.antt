@@ -1,5 +1,5 @@
 -- What the words of a command line ask for.
-use Rattle.std.specs.Prelude.{◌≡◌, ℕ, ◌^◌, ◌&&◌, Bool, true, false, not, List, [], ◌∷◌, Option, Some, None, length, nat_lt, codes, bytes_eq, unwrap_or, option_and_then, if◌then◌else◌}
+use Rattle.std.specs.Prelude.{◌≡◌, ℕ, ◌^◌, ◌&&◌, Bool, true, false, not, List, [], ◌∷◌, Option, Some, None, length, nat_lt, codes, bytes_eq, unwrap_or, option_and_then, option_map, if◌then◌else◌}
 use Rattle.std.specs.Option.{option_map_or}
 use Rattle.std.specs.Str.{all_ascii_digits}
 use Rattle.std.specs.Str.Parse.{digits_value, without_leading_plus}
@@ -25,7 +25,7 @@ pub data ProgramCommand : Type 0 where
   script : (use_checkpoints : Bool) → ProgramCommand
   table : (folder : Text) (use_checkpoints : Bool) → Work → ProgramCommand
   check : (folder : Text) → ProgramCommand
-  explain : (code : Text) → ProgramCommand
+  explain : (asked : Option Text) → ProgramCommand
 
 -- the same of the code
 abbrev pub work_view : Job → Work
@@ -42,7 +42,7 @@ abbrev pub command_view : Command → ProgramCommand
 command_view (commands.Script use_checkpoints) = script use_checkpoints
 command_view (commands.Table command) = table command.folder.now command.use_checkpoints (work_view command.job)
 command_view (commands.Check folder) = check folder.now
-command_view (commands.Explain code) = explain code.now
+command_view (commands.Explain asked) = explain (option_map (λ text. text.now) asked)
 
 -- the text that was given for a place or an option
 abbrev pub text_in : Text → List Row → Text
@@ -85,7 +85,7 @@ work_of name rows =
 abbrev pub asked_by : Text → List Row → (use_checkpoints : Bool) → ProgramCommand
 asked_by name rows use_checkpoints =
     if bytes_eq name (codes "check") then check (text_in (codes "DIR") rows)
-    else if bytes_eq name (codes "explain") then explain (text_in (codes "CODE") rows)
+    else if bytes_eq name (codes "explain") then explain (first_of (codes "CODE") rows)
     else option_map_or (λ work. table (text_in (codes "DIR") rows) use_checkpoints work) (work_of name rows) (script use_checkpoints)
 
 -- the command that a subcommand with these rows is

@@ -33,7 +33,7 @@ pub data SpellsRestore : List Text → Bool → Type 0 where
   restoring : SpellsRestore [] true
   replaying : SpellsRestore (codes "--no-checkpoint" ∷ []) false
 
--- the words that ask for a job on the table in a folder, for its check or for what a refusal means, of which the first is the program's name
+-- the words that ask for a job on the table in a folder, for its check or for what refusals mean, of which the first is the program's name
 pub data SpellsJob : List Text → ProgramCommand → Type 0 where
   -- create DIR --id ID --schema TEXT [--at MS]
   create : {program dir id schema : Text} {moment_words : List Text} {at : ℕ}
@@ -75,4 +75,6 @@ pub data SpellsJob : List Text → ProgramCommand → Type 0 where
   -- check DIR
   check : {program dir : Text} → IsArgumentValue dir → SpellsJob (program ∷ codes "check" ∷ dir ∷ []) (asked.check dir)
   -- explain CODE
-  explain : {program code : Text} → IsArgumentValue code → SpellsJob (program ∷ codes "explain" ∷ code ∷ []) (asked.explain code)
+  explain : {program code : Text} → IsArgumentValue code → SpellsJob (program ∷ codes "explain" ∷ code ∷ []) (asked.explain (Some code))
+  -- explain
+  explain_all : {program : Text} → SpellsJob (program ∷ codes "explain" ∷ []) (asked.explain None)

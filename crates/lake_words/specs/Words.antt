@@ -8,6 +8,10 @@ use Rattle.clap.specs.declared.builder.value_parser.ValueParser.TheVariants.{Uns
 abbrev pub place : Text → Rule
 place name = record (new_rule name) { action = Some Set; required = true }
 
+-- a place that may be left empty
+abbrev pub optional_place : Text → Rule
+optional_place name = record (new_rule name) { action = Some Set }
+
 -- a place that must be filled by a number below 2^64
 abbrev pub number_place : Text → Rule
 number_place name = record (place name) { parser = Some (Unsigned 0 18_446_744_073_709_551_615) }
@@ -88,9 +92,9 @@ history = with_rule (on_folder (codes "history")) no_checkpoint
 abbrev pub check : App
 check = on_folder (codes "check")
 
--- explain CODE
+-- explain [CODE]
 abbrev pub explain : App
-explain = with_rule (new_app (codes "explain")) (place (codes "CODE"))
+explain = with_rule (new_app (codes "explain")) (optional_place (codes "CODE"))
 
 -- script [--no-checkpoint]
 abbrev pub script : App

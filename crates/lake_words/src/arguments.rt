@@ -5,6 +5,8 @@
 pub(crate) enum Kind {
     /// A place that must be filled.
     Place,
+    /// A place that may be left empty.
+    OptionalPlace,
     /// A place that must be filled by a number.
     NumberPlace,
     /// `--NAME VALUE`, which must be given. The help calls the value so.
@@ -53,8 +55,8 @@ pub(crate) const NUMBER: Argument = Argument {
 
 pub(crate) const CODE: Argument = Argument {
     name: "CODE",
-    kind: Kind::Place,
-    help: "The refusal's code, as S3",
+    kind: Kind::OptionalPlace,
+    help: "The refusal's code, as S3 or s3, or the whole line of a reply that tells it; without it all are told",
 };
 
 pub(crate) const ID: Argument = Argument {

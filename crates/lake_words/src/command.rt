@@ -10,8 +10,8 @@ pub enum Command<'a> {
     Table(TableCommand<'a>),
     /// Says whether the table in a folder is sound.
     Check { folder: &'a str },
-    /// Tells what a refusal means, by its code.
-    Explain { code: &'a str },
+    /// Tells what a refusal means, by its code or a reply that tells it, or what each of them means.
+    Explain { asked: Option<&'a str> },
 }
 
 /// A job, and the folder of the table that it is done on.

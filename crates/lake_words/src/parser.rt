@@ -28,6 +28,7 @@ fn argument<'a>(alloc: Global, said: &Argument) -> Arg<'a>
     let arg = Arg::new(alloc, name).help(said.help);
     match said.kind {
         Kind::Place => arg.action(ArgAction::Set).required(true),
+        Kind::OptionalPlace => arg.action(ArgAction::Set),
         Kind::NumberPlace => arg
             .action(ArgAction::Set)
             .required(true)

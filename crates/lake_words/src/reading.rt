@@ -1,6 +1,6 @@
 //! The reader of the words.
 ghost use Rattle.std.specs.Prelude.{◌≡◌, IfOk, MatchResult, map, option_map};
-ghost use Rattle.clap.specs.Words.{fault_of, found_of, kind_of, rows_of, subcommand_of, subcommand_rows_of, FailsBy};
+ghost use Rattle.clap.specs.Words.{fault_of, first_of, found_of, kind_of, rows_of, subcommand_of, subcommand_rows_of, FailsBy};
 ghost use Rattle.lake_words.specs.Words.{commands};
 ghost use Rattle.lake_words.specs.Asked.{command_view, given_number, optional_number_in, text_in, work_of, work_view, ProgramCommand, AsksFor, Spells};
 ghost use Rattle.lake_words.specs.Spelling.{SpellsJob};
@@ -13,11 +13,18 @@ use clap::{ArgMatches, Error};
 use std::alloc::Global;
 use std::convert::AsStr;
 
+/// The text that was given, if one was.
+fn optional_text_in<'a>(matches: &ArgMatches<'a>, id: &str) -> Option<&'a str>
+    ensures { option_map (λ text. text.now) result ≡ first_of id.now (rows_of (found_of matches.now)) }
+{
+    matches.get_str(id)
+}
+
 /// The text that was given.
 fn text_in<'a>(matches: &ArgMatches<'a>, id: &str) -> &'a str
     ensures { result.now ≡ text_in id.now (rows_of (found_of matches.now)) }
 {
-    matches.get_str(id).unwrap_or("")
+    optional_text_in(matches, id).unwrap_or("")
 }
 
 /// The number that was given, if one was.
@@ -87,8 +94,8 @@ fn command_in<'a>(matches: &ArgMatches<'a>) -> Command<'a>
         return Command::Check { folder };
     }
     if name == "explain" {
-        let code = text_in(matches, "CODE");
-        return Command::Explain { code };
+        let asked = optional_text_in(matches, "CODE");
+        return Command::Explain { asked };
     }
     match job_in(name, matches) {
         Some(job) => Command::Table(TableCommand {
@@ -101,7 +108,7 @@ fn command_in<'a>(matches: &ArgMatches<'a>) -> Command<'a>
 }
 
 /// Reads the words of a command line, of which the first is the program's name. `Spells` lists the words that ask for a
-/// script and `SpellsJob` those that ask for a job on a table, for its check or for what a refusal means, with options
+/// script and `SpellsJob` those that ask for a job on a table, for its check or for what refusals mean, with options
 /// in the order in which the help has them; `found` says of all other words, too, what they are read as.
 pub fn read_words<'a, S: AsStr>(alloc: Global, words: &'a [S]) -> Result<Command<'a>, Error>
     // What is read is what `clap` finds in the words, and an error is one that they have.
@@ -112,7 +119,7 @@ pub fn read_words<'a, S: AsStr>(alloc: Global, words: &'a [S]) -> Result<Command
     ensures spelled { (command : Command) → Spells (map S.text words.now) command
         → MatchResult result (λ read. read ≡ command) (λ e. kind_of e ≡ ErrorKind.OutOfMemory) }
 
-    // And words that ask for a job on a table, for its check or for what a refusal means are read as that.
+    // And words that ask for a job on a table, for its check or for what refusals mean are read as that.
     ensures job_spelled { (asked : ProgramCommand) → SpellsJob (map S.text words.now) asked
         → MatchResult result (λ read. command_view read ≡ asked) (λ e. kind_of e ≡ ErrorKind.OutOfMemory) }
 {

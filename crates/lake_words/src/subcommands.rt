@@ -139,13 +139,17 @@ const CHECK: &str = help!(
 );
 
 const EXPLAIN: &str =
-    "Prints what the refusal of that code means, and whether the same call may be tried again: always, never, or\n\
-     after what. Also told on standard error behind each refusal of a command on a folder.\n\
+    "Prints what a refusal means, and whether the same call may be tried again: a line, which ends with `retry: ` and\n\
+     no, yes, or after what. CODE is its code, in upper or lower case, or the line of a reply that tells it. Without it\n\
+     all refusals and the faults that stand within them are told, a line each. The line of a refusal is also told on\n\
+     standard error behind each refusal of a command on a folder.\n\
      \n\
-     Example:\n  \
-       lake explain S3\n\
+     Examples:\n  \
+       lake explain s3\n  \
+       lake explain 'refused S3 Differs part-61-00000000000000000000.parquet'\n  \
+       lake explain | grep 'retry: yes$'\n\
      \n\
-     Prints: S3 Differs: .. The same call again: ..\n\
+     Prints: S3 Differs: ..; retry: no\n\
      Exit status: 0 told, 1 the output failed, 2 no refusal has that code, or words that can't be read.";
 
 const SCRIPT: &str =
@@ -245,7 +249,7 @@ pub(crate) const SUBCOMMANDS: &[Subcommand] = &[
     },
     Subcommand {
         name: "explain",
-        about: "Tell what a refusal means",
+        about: "Tell what a refusal means, or all of them",
         arguments: &[CODE],
     },
     Subcommand {

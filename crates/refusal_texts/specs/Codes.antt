@@ -1,6 +1,7 @@
 -- The codes that have an entry, in the order of the tables.
 use Rattle.std.specs.Prelude.{ℕ, zero, suc, ◌+◌, ◌/◌, ◌%◌, Bool, List, [], ◌∷◌, ◌++◌, ◌||◌, bytes_eq, codes, nat_lt, if◌then◌else◌}
 use Rattle.std.specs.List.{list_any}
+use Rattle.std.specs.Str.{str_eq_ignore_ascii_case}
 
 -- the decimal digits of a number below 100
 abbrev pub digits : ℕ → List ℕ
@@ -23,10 +24,14 @@ fault_codes =
     numbered (codes "C") 6 ++ (numbered (codes "V") 5 ++ (numbered (codes "G") 6 ++ (numbered (codes "A") 3
     ++ (numbered (codes "P") 11 ++ (numbered (codes "H") 2 ++ (numbered (codes "TH") 4 ++ numbered (codes "B") 4))))))
 
--- the code is one of these
-abbrev pub is_listed_code : List (List ℕ) → List ℕ → Bool
-is_listed_code listed code = list_any (λ one. bytes_eq one code) listed
+-- a code that passes a test has an entry
+abbrev pub has_entry_with : (List ℕ → Bool) → Bool
+has_entry_with test = list_any test refusal_codes || list_any test fault_codes
 
 -- the code has an entry
 abbrev pub has_entry : List ℕ → Bool
-has_entry code = is_listed_code refusal_codes code || is_listed_code fault_codes code
+has_entry code = has_entry_with (λ one. bytes_eq one code)
+
+-- the code has one, whether its letters are capitals or not
+abbrev pub has_entry_like : List ℕ → Bool
+has_entry_like code = has_entry_with (λ one. str_eq_ignore_ascii_case one code)

@@ -10,6 +10,10 @@ ends_word byte = (byte == 32) || (byte == 10)
 abbrev pub code_of : List ℕ → Option (List ℕ)
 code_of reply = if starts_with nat_eq reply (codes "refused ") then Some (before_first ends_word (drop 8 reply)) else None
 
+-- the code that a text asks for: the one that it tells as a reply, or else its own first word
+abbrev pub code_asked : List ℕ → List ℕ
+code_asked text = if starts_with nat_eq text (codes "refused ") then before_first ends_word (drop 8 text) else before_first ends_word text
+
 -- a code stands there, and passes a test
 abbrev pub is_some_with : (List ℕ → Bool) → Option (List ℕ) → Bool
 is_some_with test None = false

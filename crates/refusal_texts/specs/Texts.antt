@@ -6,11 +6,11 @@ use Rattle.refusal_texts.specs.declared.refusal.Refusal.{Refusal}
 
 -- whether the same call may be tried again
 abbrev pub again_text : Again → List ℕ
-again_text Always = codes "always"
-again_text Never = codes "never"
+again_text Always = codes "yes"
+again_text Never = codes "no"
 again_text (After what) = codes "after " ++ what.now
 
 -- the printed form
 abbrev pub refusal_text : Refusal → List ℕ
 refusal_text refusal =
-    refusal.code.now ++ (codes " " ++ (refusal.name.now ++ (codes ": " ++ (refusal.meaning.now ++ (codes ". The same call again: " ++ (again_text refusal.again ++ codes "."))))))
+    refusal.code.now ++ (codes " " ++ (refusal.name.now ++ (codes ": " ++ (refusal.meaning.now ++ (codes "; retry: " ++ again_text refusal.again)))))

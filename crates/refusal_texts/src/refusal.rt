@@ -21,14 +21,15 @@ impl Display for Again {
 
     fn fmt<W: fmt::Write>(&self, f: &mut Formatter<W>) -> fmt::Result {
         match self {
-            Again::Always => f.write_str("always"),
-            Again::Never => f.write_str("never"),
+            Again::Always => f.write_str("yes"),
+            Again::Never => f.write_str("no"),
             Again::After(what) => write!(f, "after {what}"),
         }
     }
 }
 
-/// A refusal, or a fault that stands within one. It is printed as one line, without a newline.
+/// A refusal, or a fault that stands within one. It is printed as one line, without a newline, which ends with `; retry: `
+/// and `yes`, `no` or `after ..`.
 #[derive(Clone, Copy)]
 pub struct Refusal {
     /// The code, as `S3`: letters and a number.
@@ -51,6 +52,6 @@ impl Display for Refusal {
             meaning,
             again,
         } = self;
-        write!(f, "{code} {name}: {meaning}. The same call again: {again}.")
+        write!(f, "{code} {name}: {meaning}; retry: {again}")
     }
 }

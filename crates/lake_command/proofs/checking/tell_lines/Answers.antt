@@ -12,9 +12,9 @@ loop-line-init g c = record { told = told_nothing g.E.Write.contents c.args.err.
 
 pub loop-line-preserved : goal.loop-line-preserved
 loop-line-preserved g c = record {
-  told = subst (λ (text : List ℕ). TellsText g.E.Write.contents c.args.err.now c.say.new.self text) (sym (lines_more c.args.lines.now c.loop-line.line-index c.line-item.result c.loop-line-test.true c.line-item.is))
+  told = subst (λ (text : List ℕ). TellsText g.E.Write.contents c.args.err.now c.say.new.self text) (sym (lines_more string_bytes c.args.lines.now c.loop-line.line-index c.line-item.result c.loop-line-test.true c.line-item.is))
       (told_on g.E.Write.contents c.args.err.now c.loop-line.err c.say.new.self (lines_text (map string_bytes (take c.loop-line.line-index c.args.lines.now))) (with_newline (string_bytes c.line-item.result)) c.loop-line.invariant.told c.say.ensures);
 }
 
 pub returns : goal.returns
-returns g c = subst (λ (text : List ℕ). TellsText g.E.Write.contents c.args.err.now c.loop-line.err text) (lines_all c.args.lines.now c.loop-line.line-index c.loop-line-test.false) c.loop-line.invariant.told
+returns g c = subst (λ (text : List ℕ). TellsText g.E.Write.contents c.args.err.now c.loop-line.err text) (lines_all string_bytes c.args.lines.now c.loop-line.line-index c.loop-line-test.false) c.loop-line.invariant.told

@@ -1,4 +1,4 @@
-use Rattle.std.proofs.Common.{◌≡◌, inl, inr, refl, sym, ap, ◌∙◌}
+use Rattle.std.proofs.Common.{◌≡◌, inl, inr, refl, sym, ap, ◌∙◌, option_map}
 use Rattle.lake_words.specs.Asked.{check, command_view, explain, script, table, work_view}
 use Rattle.lake_command.specs.Scripts.{script_uses_checkpoints}
 use Rattle.lake_command.specs.Status.{status_of_kind}
@@ -16,8 +16,8 @@ returns-in-Ok-Script g c = record {
   checks = λ folder spells.
       let same : script c.in-Ok-Script.use_checkpoints ≡ check folder = sym (ap command_view c.in-Ok-Script.field-0-is) ∙ c.in-Ok-Script.ensures.job_spelled (check folder) spells in
       absurd cc;
-  explains = λ code spells.
-      let same : script c.in-Ok-Script.use_checkpoints ≡ explain code = sym (ap command_view c.in-Ok-Script.field-0-is) ∙ c.in-Ok-Script.ensures.job_spelled (explain code) spells in
+  explains = λ asked spells.
+      let same : script c.in-Ok-Script.use_checkpoints ≡ explain asked = sym (ap command_view c.in-Ok-Script.field-0-is) ∙ c.in-Ok-Script.ensures.job_spelled (explain asked) spells in
       absurd cc;
   misread = λ some. absurd (some c.in-Ok-Script.ensures.kinds);
 }
@@ -35,8 +35,8 @@ returns-in-Ok-Table g c = record {
   checks = λ folder spells.
       let same : table c.in-Ok-Table.command.folder.now c.in-Ok-Table.command.use_checkpoints (work_view c.in-Ok-Table.command.job) ≡ check folder = sym (ap command_view c.in-Ok-Table.field-0-is) ∙ c.in-Ok-Table.ensures.job_spelled (check folder) spells in
       absurd cc;
-  explains = λ code spells.
-      let same : table c.in-Ok-Table.command.folder.now c.in-Ok-Table.command.use_checkpoints (work_view c.in-Ok-Table.command.job) ≡ explain code = sym (ap command_view c.in-Ok-Table.field-0-is) ∙ c.in-Ok-Table.ensures.job_spelled (explain code) spells in
+  explains = λ asked spells.
+      let same : table c.in-Ok-Table.command.folder.now c.in-Ok-Table.command.use_checkpoints (work_view c.in-Ok-Table.command.job) ≡ explain asked = sym (ap command_view c.in-Ok-Table.field-0-is) ∙ c.in-Ok-Table.ensures.job_spelled (explain asked) spells in
       absurd cc;
   misread = λ some. absurd (some c.in-Ok-Table.ensures.kinds);
 }
@@ -51,8 +51,8 @@ returns-in-Ok-Check g c = record {
       let same : check c.in-Ok-Check.folder.now ≡ check folder = sym (ap command_view c.in-Ok-Check.field-0-is) ∙ c.in-Ok-Check.ensures.job_spelled (check folder) spells in
       let is : c.in-Ok-Check.folder.now ≡ folder = cc in
       (refl, rw is at c.check_on_disk.ensures);
-  explains = λ code spells.
-      let same : check c.in-Ok-Check.folder.now ≡ explain code = sym (ap command_view c.in-Ok-Check.field-0-is) ∙ c.in-Ok-Check.ensures.job_spelled (explain code) spells in
+  explains = λ asked spells.
+      let same : check c.in-Ok-Check.folder.now ≡ explain asked = sym (ap command_view c.in-Ok-Check.field-0-is) ∙ c.in-Ok-Check.ensures.job_spelled (explain asked) spells in
       absurd cc;
   misread = λ some. absurd (some c.in-Ok-Check.ensures.kinds);
 }
@@ -61,14 +61,14 @@ pub returns-in-Ok-Explain : goal.returns-in-Ok-Explain
 returns-in-Ok-Explain g c = record {
   script = λ command spells. absurd (no_other _ command _ spells (sym c.in-Ok-Explain.field-0-is ∙ c.in-Ok-Explain.ensures.spelled command spells) refl);
   job = λ folder use_checkpoints work spells.
-      let same : explain c.in-Ok-Explain.code.now ≡ table folder use_checkpoints work = sym (ap command_view c.in-Ok-Explain.field-0-is) ∙ c.in-Ok-Explain.ensures.job_spelled (table folder use_checkpoints work) spells in
+      let same : explain (option_map (λ text. text.now) c.in-Ok-Explain.asked) ≡ table folder use_checkpoints work = sym (ap command_view c.in-Ok-Explain.field-0-is) ∙ c.in-Ok-Explain.ensures.job_spelled (table folder use_checkpoints work) spells in
       absurd cc;
   checks = λ folder spells.
-      let same : explain c.in-Ok-Explain.code.now ≡ check folder = sym (ap command_view c.in-Ok-Explain.field-0-is) ∙ c.in-Ok-Explain.ensures.job_spelled (check folder) spells in
+      let same : explain (option_map (λ text. text.now) c.in-Ok-Explain.asked) ≡ check folder = sym (ap command_view c.in-Ok-Explain.field-0-is) ∙ c.in-Ok-Explain.ensures.job_spelled (check folder) spells in
       absurd cc;
-  explains = λ code spells.
-      let same : explain c.in-Ok-Explain.code.now ≡ explain code = sym (ap command_view c.in-Ok-Explain.field-0-is) ∙ c.in-Ok-Explain.ensures.job_spelled (explain code) spells in
-      let is : c.in-Ok-Explain.code.now ≡ code = cc in
+  explains = λ asked spells.
+      let same : explain (option_map (λ text. text.now) c.in-Ok-Explain.asked) ≡ explain asked = sym (ap command_view c.in-Ok-Explain.field-0-is) ∙ c.in-Ok-Explain.ensures.job_spelled (explain asked) spells in
+      let is : option_map (λ text. text.now) c.in-Ok-Explain.asked ≡ asked = cc in
       (refl, inr (rw is at c.explain_command.ensures));
   misread = λ some. absurd (some c.in-Ok-Explain.ensures.kinds);
 }
@@ -95,8 +95,8 @@ returns-in-Err g c = record {
   checks = λ folder spells.
       let memory = c.in-Err.ensures.job_spelled (check folder) spells in
       (refl, inl (refl, c.tell_misread.ensures.status ∙ ap status_of_kind memory, c.tell_misread.ensures.short memory));
-  explains = λ code spells.
-      let memory = c.in-Err.ensures.job_spelled (explain code) spells in
+  explains = λ asked spells.
+      let memory = c.in-Err.ensures.job_spelled (explain asked) spells in
       (refl, inl (c.tell_misread.ensures.status ∙ ap status_of_kind memory, c.tell_misread.ensures.short memory));
   misread = λ some. record {
     misused = status_of_words _ _ _ _ c.tell_misread.ensures.status c.tell_misread.ensures.short c.in-Err.ensures.kinds;

@@ -49,4 +49,4 @@ returns-then-eq-2 c =
     let is_flag = subst (λ t. IsFlag t c.get_flag-use_checkpoints.result) (one_text-rows found (codes "no-checkpoint")) (flag.none, flag.value, flag.other) in
     let sub_is : subcommand_rows_of c.args.matches.now ≡ Some (c.in-Some.name.now, rows) = both_known _ _ c.in-Some.name.now rows c.in-Some.ensures.name c.in-Some.ensures.rows in
     asks_for _ c.in-Some.name.now rows c.get_flag-use_checkpoints.result _ sub_is is_flag
-    (ap explain c.text_in-code.ensures ∙ explain_asked c.in-Some.name.now rows (not c.get_flag-use_checkpoints.result) (sym c.eq.ensures ∙ c.if-eq.false) (sym c.eq-2.ensures ∙ c.if-eq-2.true))
+    (ap explain c.optional_text_in-asked.ensures ∙ explain_asked c.in-Some.name.now rows (not c.get_flag-use_checkpoints.result) (sym c.eq.ensures ∙ c.if-eq.false) (sym c.eq-2.ensures ∙ c.if-eq-2.true))
