@@ -19,7 +19,7 @@ COMMANDS: dict[str, tuple[int, dict[str, bool]]] = {
     "append": (2, PUTS | {"rows": False}),
     "close": (1, PUTS),
     "load": (0, PUTS | {"workers": True}),
-    "tail": (0, {"from": True, "max": True}),
+    "tail": (0, {"from": False, "max": False}),
     "snapshot": (0, {}),
     "checkpoint": (0, {}),
     "history": (0, {}),
@@ -29,7 +29,10 @@ COMMANDS: dict[str, tuple[int, dict[str, bool]]] = {
 # The bounds of numbers, and what stands for an option that isn't given.
 NUMBER = (0, 2**64 - 1)
 BOUNDS = {"at": (0, 10**15 - 1), "tries": (1, 64), "max": (0, 65_536), "workers": NUMBER, "rows": NUMBER}
-DEFAULTS = {"at": "0", "tries": "16"}
+DEFAULTS = {"at": "0", "tries": "16", "from": "start", "max": "65536"}
+
+# The offset of a table's first row.
+START = '{"file":0,"row":0,"version":0}'
 
 # The words of JSON, and a sign that stands in front of a number; and how many columns without rows are named.
 WORDS = ("true", "false", "null", "-")
@@ -125,7 +128,7 @@ def script_line(command: Command, content: bytes) -> str:
     if command.name == "close":
         return f"close {command.places[0]} {options['at']}"
     if command.name == "tail":
-        return f"tail {options['max']} {options['from']}"
+        return f"tail {options['max']} {START if options['from'] == 'start' else options['from']}"
     return command.name
 
 

@@ -1,5 +1,5 @@
 -- What a job on the table in a folder asks for, in the words of a script, and what it leaves in the folder.
-use Rattle.std.specs.Prelude.{◌≡◌, ◌≢◌, ◌⊎◌, ℕ, Bool, List, Option, Some, None, IfSome, IsSomeAnd, length, map, true, false}
+use Rattle.std.specs.Prelude.{◌≡◌, ◌≢◌, ◌⊎◌, ℕ, Bool, List, Option, Some, None, IfSome, IsSomeAnd, bytes_eq, codes, length, map, true, false, if◌then◌else◌}
 use Rattle.std.specs.Io.KnownBytes.{Appends}
 use Rattle.serde_json.specs.Data.{Data}
 use Rattle.serde_json.specs.View.{items_of}
@@ -40,6 +40,10 @@ rows_said _ = None
 abbrev pub IsMiscounted : Work → (text : Option (List ℕ)) → Type 0
 IsMiscounted work text = IsSomeAnd (rows_said work) (λ rows. IsSomeAnd text (λ bytes. length (input_lines bytes) ≢ rows))
 
+-- the text of the offset that a word names: `start` that of a table's first row, and each other word the text that it is
+abbrev pub offset_named : List ℕ → List ℕ
+offset_named word = if bytes_eq word (codes "start") then codes "{\"file\":0,\"row\":0,\"version\":0}" else word
+
 -- What a job asks for. An append's rows are those of the input's lines, as many as its words say, if they do; where the
 -- reader doesn't tell its bytes, those of the lines of some text.
 abbrev pub IsAskedBy : Work → (text : Option (List ℕ)) → Statement → Type 0
@@ -49,7 +53,7 @@ IsAskedBy (words.append application number at tries said) text statement =
     × IfSome said (λ count. length rows ≡ count)
 IsAskedBy (words.close application at tries) text statement = statement ≡ task (close application at)
 IsAskedBy (words.load workers at tries) text statement = ⊥
-IsAskedBy (words.tail max offset) text statement = statement ≡ task (tail max offset)
+IsAskedBy (words.tail max offset) text statement = statement ≡ task (tail max (offset_named offset))
 IsAskedBy words.snapshot text statement = statement ≡ look snapshot
 IsAskedBy words.checkpoint text statement = statement ≡ task checkpoint
 IsAskedBy words.history text statement = statement ≡ look history

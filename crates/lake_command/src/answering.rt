@@ -12,7 +12,7 @@ ghost use Rattle.lake_command.specs.Answering.{GoesByInput, IsAnswerOver, KeepsF
 ghost use Rattle.lake_command.specs.Counts.{IsRowCount, rows_at_hand};
 ghost use Rattle.lake_command.specs.Failures.{CountsFolderFault, IsByFolder, IsCaused, IsLoading, IsNotRead, IsOfInput, IsCommitTaken};
 ghost use Rattle.lake_script.specs.declared.inputs.TheConstants.{MOST_BYTES};
-ghost use Rattle.lake_command.specs.Folders.{IsAskedBy, IsNotYet, IsPutter, IsInputOf, line_view, reads_input};
+ghost use Rattle.lake_command.specs.Folders.{IsAskedBy, IsNotYet, IsPutter, IsInputOf, line_view, offset_named, reads_input};
 
 use crate::Failure;
 use crate::job_line::JobLine;
@@ -253,7 +253,10 @@ fn line_for<'a>(alloc: Global, job: Job<'a>, text: &'a [u8]) -> Result<Option<Jo
                 rows: JsonRows::Texts(texts),
             })
         }
-        Job::Tail { max, offset } => JobLine::Job(lake_script::Job::Tail { max, offset }),
+        Job::Tail { max, offset } => JobLine::Job(lake_script::Job::Tail {
+            max,
+            offset: offset_named(offset),
+        }),
         Job::Checkpoint => JobLine::Job(lake_script::Job::Checkpoint),
         Job::Snapshot => JobLine::Snapshot,
         Job::History => JobLine::History,
@@ -268,6 +271,16 @@ fn line_for<'a>(alloc: Global, job: Job<'a>, text: &'a [u8]) -> Result<Option<Jo
         Job::Load { .. } => return Ok(None),
     };
     Ok(Some(line))
+}
+
+/// The text of the offset that a word names: `start` that of a table's first row, and each other word the text that it is.
+fn offset_named(word: &str) -> &str
+    ensures { result.now ≡ offset_named word.now }
+{
+    if word == "start" {
+        return r#"{"file":0,"row":0,"version":0}"#;
+    }
+    word
 }
 
 /// Refuses a count of rows that isn't the one that was said.

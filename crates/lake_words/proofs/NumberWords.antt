@@ -73,6 +73,10 @@ pub sixteen_is : argument_number (codes "16") ≡ Some 16
 unfolding argument_number
 sixteen_is = refl
 
+pub most_is : argument_number (codes "65536") ≡ Some 65_536
+unfolding argument_number
+most_is = refl
+
 -- what is accepted passes as one value, as the one before an option, and as the one before a flag
 pub at_end : {a : Bool} → a ≡ true → (a && true) ≡ true
 at_end e = and_from _ _ e refl

@@ -3,7 +3,7 @@ use Rattle.std.specs.Prelude.{◌∷◌, List, [], Some}
 use Rattle.clap.specs.Words.{App, Rule, Text, new_app, new_rule, with_rule, with_subcommand}
 use Rattle.clap.specs.declared.builder.ArgAction.TheVariants.{Set}
 use Rattle.clap.specs.declared.builder.value_parser.ValueParser.TheVariants.{Unsigned}
-use Rattle.lake_words.specs.Words.{flag, number_option, number_place, option, optional_place, place}
+use Rattle.lake_words.specs.Words.{flag, number_option, number_place, option, optional_place, place, text_option}
 use Rattle.lake_words.specs.declared.arguments.Argument.{Argument}
 use Rattle.lake_words.specs.declared.arguments.Kind.{Kind}
 use Rattle.lake_words.specs.declared.arguments.Kind.TheVariants as kinds
@@ -15,6 +15,7 @@ rule_by name kinds.Place = place name
 rule_by name kinds.OptionalPlace = optional_place name
 rule_by name kinds.NumberPlace = number_place name
 rule_by name (kinds.Text value) = option name
+rule_by name (kinds.TextOr value default) = text_option name default.now
 rule_by name (kinds.Number greatest) =
     record (new_rule name) { long = Some name; action = Some Set; value_names = 1; parser = Some (Unsigned 0 greatest) }
 rule_by name (kinds.NeededNumber greatest) = record (option name) { parser = Some (Unsigned 0 greatest) }

@@ -28,6 +28,16 @@ pub data SpellsRows : List Text → Option ℕ → Type 0 where
   any : SpellsRows [] None
   rows : {text : Text} {n : ℕ} → IsNumber text n → SpellsRows (codes "--rows" ∷ text ∷ []) (Some n)
 
+-- [--from OFFSET]: where a read begins, at the log's start unless it is given
+pub data SpellsPlace : List Text → Text → Type 0 where
+  start : SpellsPlace [] (codes "start")
+  from : {offset : Text} → IsArgumentValue offset → SpellsPlace (codes "--from" ∷ offset ∷ []) offset
+
+-- [--max N]: how many rows a read hands out at most, up to 65,536, and so many unless it is given
+pub data SpellsMost : List Text → ℕ → Type 0 where
+  greatest : SpellsMost [] 65_536
+  most : {text : Text} {n : ℕ} → IsNumber text n → n ≤ 65_536 → SpellsMost (codes "--max" ∷ text ∷ []) n
+
 -- [--no-checkpoint]: whether the log is read from its newest checkpoint
 pub data SpellsRestore : List Text → Bool → Type 0 where
   restoring : SpellsRestore [] true
@@ -58,10 +68,10 @@ pub data SpellsJob : List Text → ProgramCommand → Type 0 where
       → SpellsMoment moment_words at → SpellsTries tries_words tries → SpellsRestore restore_words use_checkpoints
       → SpellsJob (program ∷ codes "load" ∷ dir ∷ codes "--workers" ∷ number ∷ moment_words ++ (tries_words ++ restore_words))
       (table dir use_checkpoints (asked.load workers at tries))
-  -- tail DIR --from OFFSET --max N [--no-checkpoint]
-  tail : {program dir offset number : Text} {restore_words : List Text} {max : ℕ} {use_checkpoints : Bool}
-      → IsArgumentValue dir → IsArgumentValue offset → IsNumber number max → max ≤ 65_536 → SpellsRestore restore_words use_checkpoints
-      → SpellsJob (program ∷ codes "tail" ∷ dir ∷ codes "--from" ∷ offset ∷ codes "--max" ∷ number ∷ restore_words)
+  -- tail DIR [--from OFFSET] [--max N] [--no-checkpoint]
+  tail : {program dir offset : Text} {place_words most_words restore_words : List Text} {max : ℕ} {use_checkpoints : Bool}
+      → IsArgumentValue dir → SpellsPlace place_words offset → SpellsMost most_words max → SpellsRestore restore_words use_checkpoints
+      → SpellsJob (program ∷ codes "tail" ∷ dir ∷ place_words ++ (most_words ++ restore_words))
       (table dir use_checkpoints (asked.tail max offset))
   -- snapshot DIR [--no-checkpoint]
   snapshot : {program dir : Text} {restore_words : List Text} {use_checkpoints : Bool} → IsArgumentValue dir → SpellsRestore restore_words use_checkpoints

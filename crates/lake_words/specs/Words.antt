@@ -20,6 +20,10 @@ number_place name = record (place name) { parser = Some (Unsigned 0 18_446_744_0
 abbrev pub option : Text → Rule
 option name = record (new_rule name) { long = Some name; action = Some Set; value_names = 1; required = true }
 
+-- `--NAME VALUE`, with a default
+abbrev pub text_option : Text → (default : Text) → Rule
+text_option name default = record (new_rule name) { long = Some name; action = Some Set; value_names = 1; defaults = default ∷ [] }
+
 -- `--NAME N`, a number between two bounds, with a default
 abbrev pub number_option : Text → (low high : ℕ) → (default : Text) → Rule
 number_option name low high default =
@@ -37,9 +41,13 @@ at_option = number_option (codes "at") 0 999_999_999_999_999 (codes "0")
 abbrev pub tries : Rule
 tries = number_option (codes "tries") 1 64 (codes "16")
 
--- `--max N`: how many rows a read hands out at most
+-- `--from OFFSET`: where a read begins, at the log's start unless it is given
+abbrev pub from_option : Rule
+from_option = text_option (codes "from") (codes "start")
+
+-- `--max N`: how many rows a read hands out at most, 65,536 unless it is given
 abbrev pub max : Rule
-max = record (option (codes "max")) { parser = Some (Unsigned 0 65_536) }
+max = number_option (codes "max") 0 65_536 (codes "65536")
 
 -- `--rows N`: how many rows the input has, where it is given
 abbrev pub rows_option : Rule
@@ -74,9 +82,9 @@ close = with_rule (with_rule (with_rule (with_rule (on_folder (codes "close")) (
 abbrev pub load : App
 load = with_rule (with_rule (with_rule (with_rule (on_folder (codes "load")) workers) at_option) tries) no_checkpoint
 
--- tail DIR --from OFFSET --max N [--no-checkpoint]
+-- tail DIR [--from OFFSET] [--max N] [--no-checkpoint]
 abbrev pub tail : App
-tail = with_rule (with_rule (with_rule (on_folder (codes "tail")) (option (codes "from"))) max) no_checkpoint
+tail = with_rule (with_rule (with_rule (on_folder (codes "tail")) from_option) max) no_checkpoint
 
 -- snapshot DIR, checkpoint DIR and history DIR, each with [--no-checkpoint]
 abbrev pub snapshot : App

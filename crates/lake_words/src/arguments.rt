@@ -11,6 +11,11 @@ pub(crate) enum Kind {
     NumberPlace,
     /// `--NAME VALUE`, which must be given. The help calls the value so.
     Text(&'static str),
+    /// `--NAME VALUE`, with a default. The help calls the value so.
+    TextOr {
+        value: &'static str,
+        default: &'static str,
+    },
     /// `--NAME N`, a number up to this one.
     Number(u64),
     /// `--NAME N`, a number up to this one, which must be given.
@@ -73,13 +78,21 @@ pub(crate) const SCHEMA: Argument = Argument {
 
 pub(crate) const FROM: Argument = Argument {
     name: "from",
-    kind: Kind::Text("OFFSET"),
-    help: "The offset of the first row, as JSON",
+    kind: Kind::TextOr {
+        value: "OFFSET",
+        default: "start",
+    },
+    help: "The offset of the first row, as JSON; `start` is that of the table's first row",
 };
 
 pub(crate) const MAX: Argument = Argument {
     name: "max",
-    kind: Kind::NeededNumber(65_536),
+    kind: Kind::NumberOr {
+        value: "N",
+        least: 0,
+        greatest: 65_536,
+        default: "65536",
+    },
     help: "How many rows are printed at most, up to 65,536",
 };
 

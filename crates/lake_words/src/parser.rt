@@ -38,6 +38,11 @@ fn argument<'a>(alloc: Global, said: &Argument) -> Arg<'a>
             .action(ArgAction::Set)
             .value_name(value)
             .required(true),
+        Kind::TextOr { value, default } => arg
+            .long(name)
+            .action(ArgAction::Set)
+            .value_name(value)
+            .default_value(default),
         Kind::Number(greatest) => arg
             .long(name)
             .action(ArgAction::Set)

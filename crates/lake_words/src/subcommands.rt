@@ -75,10 +75,12 @@ const CLOSE: &str = help!(
 
 const TAIL: &str = help!(
     "Prints the rows from OFFSET on, one JSON object a line, and then `next` and the offset to go on from.\n\
-     The first offset of a table is {\"file\":0,\"row\":0,\"version\":0}.\n\
+     The first offset of a table is {\"file\":0,\"row\":0,\"version\":0}, or `start`, where a read without --from begins.\n\
+     Behind the last of V versions, which `lake check` counts, it is {\"file\":0,\"row\":0,\"version\":V}.\n\
      \n\
-     Example:\n  \
-       lake tail orders --from '{\"file\":0,\"row\":0,\"version\":0}' --max 1000\n\
+     Examples:\n  \
+       lake tail orders\n  \
+       lake tail orders --from '{\"file\":0,\"row\":2,\"version\":1}' --max 1000\n\
      \n\
      Exit status: 0 done, 1 refused (the offset stays good), 2 words that can't be read."
 );

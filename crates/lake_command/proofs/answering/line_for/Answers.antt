@@ -2,7 +2,7 @@ use Rattle.std.proofs.Common.{◌≡◌, ◌∙◌, ℕ, List, length, Bor, Opti
 use Rattle.std.proofs.lemmas.List.{length-map}
 use Rattle.serde_json.specs.View.{items_of}
 use Rattle.json_text.specs.Rows.{text_data}
-use Rattle.script_lines.specs.Lines.{append, close, create, task}
+use Rattle.script_lines.specs.Lines.{append, close, create, tail, task}
 use Rattle.lake_words.specs.Asked.{work_view}
 use Rattle.lake_command.specs.Folders.{reads_input}
 use Rattle.lake_command.proofs.AnswerLemmas.{texts_count}
@@ -27,7 +27,7 @@ returns-clause-asked c = λ known is. elim c.match-job.branch [
     all_counted w.in-Append.rows w.in_ok-texts-in-Append.texts.items w.len.result (omega (arith, w.len.ensures, w.in_ok-texts-in-Append.texts.ok.0)) w.in_ok-counted-in-Append.ensures.same,
   )
   | in-Close+in_ok-moment-in-Close w ↦ rw (w.in-Close.is, w.line-is) (ap (λ at. task (close w.in-Close.application.now at)) w.in_ok-moment-in-Close.ensures.same.0)
-  | in-Tail w ↦ rw (w.in-Tail.is, w.line-is) refl
+  | in-Tail w ↦ rw (w.in-Tail.is, w.line-is) (ap (λ offset. task (tail w.in-Tail.max offset)) w.offset_named.ensures)
   | in-Checkpoint w ↦ rw (w.in-Checkpoint.is, w.line-is) refl
   | in-Snapshot w ↦ rw (w.in-Snapshot.is, w.line-is) refl
   | in-History w ↦ rw (w.in-History.is, w.line-is) refl
