@@ -26,7 +26,8 @@ use Rattle.parquet_footer.specs.declared.fault.FileFault.{FileFault}
 use Rattle.parquet_footer.specs.declared.fault.FileFault.TheVariants.{BadMagic, BadFooter, BadOffset, BadPage, Codec, CountMismatch, Encoding, NotUtf8, PageKind, SchemaMismatch, TooLarge}
 use Rattle.parquet_footer.proofs.Callers.{Parts, bind_ok, frame_found, held, ok_is, one_frame, parts_again, passed}
 use Rattle.parquet_pages.specs.Headers.{Content, Header, data_page}
-use Rattle.parquet_pages.specs.Pages.{has_levels, may_stand, no_cells, rle_where}
+use Rattle.parquet_pages.specs.Pages.{has_levels, no_cells, rle_where}
+use Rattle.page_cells.specs.Levels.{may_stand}
 use Rattle.page_cells.specs.Texts.{is_proper, is_too_long}
 use Rattle.parquet_pages.specs.Reading.{chunk_at, first_place, header_at, pages_at}
 use Rattle.page_cells.specs.Types.{primitive_of}

@@ -13,7 +13,8 @@ use Rattle.parquet_footer.specs.declared.fault.FileFault.{FileFault}
 use Rattle.parquet_footer.specs.declared.fault.FileFault.TheVariants.{CountMismatch, NotUtf8, SchemaMismatch, TooLarge}
 use Rattle.parquet_footer.proofs.Callers.{bind_ok, ok_is}
 use Rattle.parquet_pages.specs.Headers.{Content, Header, data_page}
-use Rattle.parquet_pages.specs.Pages.{Leaf, has_levels, joined, may_stand, no_cells, plain_header}
+use Rattle.parquet_pages.specs.Pages.{Leaf, has_levels, joined, no_cells, plain_header}
+use Rattle.page_cells.specs.Levels.{may_stand}
 use Rattle.page_cells.specs.Texts.{is_proper, is_too_long}
 use Rattle.parquet_pages.specs.Reading.{body_at, cells_at, chunk_at, column_in, first_place, has_mismatch, header_at, page_at, pages_at, tested}
 use Rattle.page_cells.specs.Outcome.{in_page}

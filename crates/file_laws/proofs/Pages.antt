@@ -16,7 +16,8 @@ use Rattle.parquet_footer.specs.declared.fault.FileFault.{FileFault}
 use Rattle.parquet_footer.specs.declared.fault.FileFault.TheVariants.{BadOffset, BadPage, CountMismatch, Encoding, NotUtf8, PageKind, SchemaMismatch, TooLarge}
 use Rattle.parquet_footer.proofs.Callers.{bind_ok, bytes_behind, ok_is}
 use Rattle.parquet_pages.specs.Headers.{Content, Header, data_page, dictionary_page, header_of, other_page}
-use Rattle.parquet_pages.specs.Pages.{has_levels, may_stand}
+use Rattle.parquet_pages.specs.Pages.{has_levels}
+use Rattle.page_cells.specs.Levels.{may_stand}
 use Rattle.page_cells.specs.Texts.{is_proper, is_too_long}
 use Rattle.parquet_pages.specs.Reading.{DataPage, body_at, cells_at, column_in, data_page_by, encoding_fault, has_mismatch, header_at, level_encoding_fault, page_at, tested, unless_fault}
 use Rattle.page_cells.specs.Outcome.{in_page}

@@ -18,7 +18,8 @@ use Rattle.parquet_footer.specs.Metadata.{ColumnChunk, RowGroup, FileMetaData, m
 use Rattle.parquet_footer.specs.declared.fault.FileFault.{FileFault}
 use Rattle.parquet_footer.specs.declared.fault.FileFault.TheVariants.{BadMagic, BadFooter, Codec, Encoding, PageKind, BadOffset, CountMismatch, SchemaMismatch, TooLarge, NotUtf8, BadPage}
 use Rattle.parquet_pages.specs.Headers.{Header, data_page, header_of}
-use Rattle.parquet_pages.specs.Pages.{has_levels, may_stand}
+use Rattle.parquet_pages.specs.Pages.{has_levels}
+use Rattle.page_cells.specs.Levels.{may_stand}
 use Rattle.parquet_pages.specs.Reading.{cells_at}
 use Rattle.page_cells.specs.Texts.{is_too_long}
 use Rattle.page_cells.specs.Types.{primitive_of}

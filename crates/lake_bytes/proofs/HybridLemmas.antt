@@ -6,12 +6,8 @@ use Rattle.lake_bytes.specs.Hybrid.{AreRuns, HoldsValues, IsRun, hybrid_at, no_r
 use Rattle.lake_bytes.specs.Reading.{ReadsFront}
 use Rattle.outcomes.specs.Results.{◌>>=◌}
 use Rattle.outcomes.specs.Bytes.{IsBytes}
-use Rattle.lake_bytes.specs.Internal.{says}
-use Rattle.outcomes.specs.Outcome.{IsSaid}
 use Rattle.lake_bytes.specs.declared.fault.ByteFault.{ByteFault}
 use Rattle.lake_bytes.specs.declared.fault.ByteFault.TheVariants.{BadRun}
-use Rattle.lake_bytes.specs.declared.run.HybridError.{HybridError}
-use Rattle.lake_bytes.specs.declared.run.HybridError.TheVariants.{Memory, Fault}
 use Rattle.outcomes.proofs.Loops.{regroup_beside, with_front_beside}
 use Rattle.lake_bytes.proofs.RunLemmas.{Read, done, failed, done_parts, IsBytes-behind, run_found, run_stands, some_values}
 
@@ -232,18 +228,3 @@ run_refused width wanted bytes front whole fault some reads l =
     sym l.reads
     ∙ ap (with_front_beside front) (at_run l.most width wanted bytes some l.enough
     ∙ ap (with_first (l.most - 1) width wanted) reads)
-
--- what an error of a run says, it says of the whole
-pub run_said : (error : HybridError) (width wanted : ℕ) (bytes front : List ℕ) (whole : Read) → 0 < wanted
-    → ((fault : ByteFault) → error ≡ Fault fault → run_at width bytes ≡ failed fault)
-    → LeftToRead width wanted bytes front whole → IsSaid (says error) whole
-run_said Memory width wanted bytes front whole some refused l = tt
-run_said (Fault fault) width wanted bytes front whole some refused l =
-    run_refused width wanted bytes front whole fault some (refused fault refl) l
-
--- where values stand, only memory can run out
-pub only_memory : (error : HybridError) (read : Read) (values rest : List ℕ) → read ≡ done values rest
-    → IsSaid (says error) read → error ≡ Memory
-only_memory Memory read values rest stands said = refl
-only_memory (Fault fault) read values rest stands said = let bad : failed fault ≡ done values rest = sym said
-    ∙ stands in absurd cc

@@ -8,3 +8,4 @@ pub mod RunLemmas
 pub mod HybridLemmas
 pub mod GroupedLemmas
 pub mod ValueLemmas
+pub mod ReaderLemmas

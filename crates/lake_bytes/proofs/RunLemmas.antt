@@ -193,3 +193,34 @@ packed_read width n bytes left body rest header some odd reads =
     let not_even : eqb (n % 2) 0 ≡ false = ne_eqb (n % 2) 0 odd in
     ap (λ (read : Result (ℕ × List ℕ) ByteFault). read >>= behind width) header
     ∙ rw (not_none, not_even) (ap (body_so (λ found. unpacked width (8 * (n / 2)) (low_first found))) reads)
+
+-- no run is empty
+pub run_some : (width : ℕ) (bytes values rest : List ℕ) → run_at width bytes ≡ done values rest → 0 < length values
+unfolding run_at
+run_some width bytes values rest h = by_header (varint_at bytes) h
+  where
+    by_half : (n : ℕ) (left : List ℕ) → behind width (n, left) ≡ done values rest → 0 < length values
+    by_half n left g =
+        elim (cases_lt (n / 2) 1) [
+          | inl lt ↦
+              let none : eqb (n / 2) 0 ≡ true = eq-eqb (n / 2) 0 (omega arith) in
+              let bad : failed BadRun ≡ done values rest = rw none at g in absurd cc
+          | inr some ↦
+              let not_none : eqb (n / 2) 0 ≡ false = ne_eqb (n / 2) 0 (λ e. absurd (omega arith)) in
+              elim (cases_lt (n % 2) 1) [
+                | inl lt ↦
+                    let even : eqb (n % 2) 0 ≡ true = eq-eqb (n % 2) 0 (omega arith) in
+                    let f = body_found (bytes_for width) (λ body. replicate (n / 2) (low_first body)) left
+                    (bytes_at (bytes_for width) left) values rest refl (rw (not_none, even) at g) in
+                    omega (arith, ap length f.is, length-replicate (n / 2) (low_first f.body))
+                | inr odd ↦
+                    let not_even : eqb (n % 2) 0 ≡ false = ne_eqb (n % 2) 0 (λ e. absurd (omega arith)) in
+                    let f = body_found (n / 2 * width) (λ body. unpacked width (8 * (n / 2)) (low_first body)) left
+                    (bytes_at (n / 2 * width) left) values rest refl (rw (not_none, not_even) at g) in
+                    omega (arith, ap length f.is, length-unpacked width (8 * (n / 2)) (low_first f.body))
+              ]
+        ]
+
+    by_header : (read : Result (ℕ × List ℕ) ByteFault) → (read >>= behind width) ≡ done values rest → 0 < length values
+    by_header (Err fault) g = let bad : failed fault ≡ done values rest = g in absurd cc
+    by_header (Ok header) g = by_half header.0 header.1 g

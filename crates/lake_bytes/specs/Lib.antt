@@ -5,3 +5,4 @@ pub mod Reading
 pub mod Texts
 pub mod Varint
 pub mod Zigzag
+pub mod Tested

@@ -1,4 +1,4 @@
-//! The hybrid of equal and of packed values, read from a cursor.
+//! What runs of a hybrid are made of: groups of packed values, bits taken from bytes, equal values.
 
 ghost use Rattle.std.specs.Prelude.{◌≡◌, ◌≢◌, ◌⊎◌, ℕ, List, [], ◌*◌, ◌/◌, ◌%◌, ◌^◌, ◌<◌, ◌≤◌, ◌++◌, length, min, take, replicate, Ok, Err, IfOk, IsOk, OnErr, OnOk};
 ghost use Rattle.lake_bytes.specs.Hybrid.{HoldsValues, Reads, bytes_for, hybrid_at, low_first, run_at, unpacked, values_of};
@@ -9,94 +9,8 @@ ghost use Rattle.outcomes.specs.Bytes.{IsBytes};
 
 use crate::cursor::Cursor;
 use crate::fault::ByteFault;
-use crate::run::{HybridError, Run};
+use crate::run::Run;
 use std::alloc::{AllocError, Global};
-
-/// The first `count` values of the hybrid in front, each of `width` bits, 0 to 32, as runs of equal ones (Apache
-/// Parquet, "Run Length Encoding / Bit-Packing Hybrid"). The cursor then stands behind the run that has the last of
-/// them, whose further values are passed over. A value of a run of equal ones has whole bytes, so it may need more
-/// than `width` bits.
-///
-/// B1 where the bytes end before so many values, also where a group of the last run isn't there; B2 and B3 for a
-/// run's header as [`Cursor::varint`] has them; B4 for a run of no values. After a refusal the cursor stands where it
-/// stood.
-///
-/// The time is linear in the bytes that are passed, however often a run repeats its value; the memory in the runs.
-pub fn hybrid_read(
-    alloc: Global,
-    cursor: &mut Cursor,
-    width: u32,
-    count: u64,
-) -> Result<Vec<Run>, HybridError>
-    requires { width ≤ 32 }
-    // What is read stands in front.
-    ensures found { IfOk result (λ runs. HoldsValues width count cursor.old (values_of runs.items)) }
-    // Where a front of the bytes is runs of enough values, the first of them are read, unless memory runs out.
-    ensures whatever_stands { (values : List ℕ) → HoldsValues width count cursor.old values
-        → result ≢ Err HybridError.Memory → IfOk result (λ runs. values_of runs.items ≡ values) × IsOk result }
-    ensures unchanged { OnErr result (cursor.new ≡ cursor.old) }
-    // Which of these it is, as reading from the left.
-    ensures exact { Reads (hybrid_at width count cursor.old) cursor.old result cursor.new }
-{
-    let (runs, rest) = read_runs(alloc, cursor.left(), width, count)?;
-    *cursor = Cursor::new(rest);
-    Ok(runs)
-}
-
-/// So many values, run by run, and the bytes behind them.
-fn read_runs<'a>(
-    alloc: Global,
-    bytes: &'a [u8],
-    width: u32,
-    count: u64,
-) -> Result<(Vec<Run>, &'a [u8]), HybridError>
-    requires { width ≤ 32 }
-    ensures exact { Gives says (λ x. (values_of x.0.items, x.1.now)) result (hybrid_at width count bytes.now) }
-    ensures bytes { IsBytes bytes.now }
-{
-    let mut ahead = Cursor::new(bytes);
-    let mut runs = Vec::new(alloc);
-    let mut wanted = count;
-    while wanted > 0 {
-        wanted -= read_run(&mut ahead, width, wanted, &mut runs)?;
-    }
-    Ok((runs, ahead.left()))
-}
-
-/// The run in front, as far as its values are wanted: how many it gave.
-#[tactic(auto, unfolding(crate::specs::Hybrid::run_at))]
-fn read_run(
-    ahead: &mut Cursor,
-    width: u32,
-    wanted: u64,
-    runs: &mut Vec<Run>,
-) -> Result<u64, HybridError>
-    requires width { width ≤ 32 }
-    requires wanted { 0 < wanted }
-    ensures given { IfOk result (λ given. (values : List ℕ) × (run_at width ahead.old ≡ Ok (values, ahead.new))
-        × (given ≡ min wanted (length values))
-        × (values_of runs.new.items ≡ values_of runs.old.items ++ take wanted values)) }
-    ensures some { IfOk result (λ given. (0 < given) × (given ≤ wanted)) }
-    ensures refused { (fault : ByteFault) → result ≡ Err (HybridError.Fault fault)
-        → run_at width ahead.old ≡ Err fault }
-{
-    let header = ahead.varint()?;
-    let count = header / 2;
-    if count == 0 {
-        return Err(ByteFault::BadRun.into());
-    }
-    if header % 2 == 0 {
-        let body = ahead.take(bytes_for(width))?;
-        let given = count.min(wanted);
-        push_run(runs, low_first(body), given)?;
-        Ok(given)
-    } else {
-        let body = take_groups(ahead, width, count)?;
-        let given = values_in(count, wanted);
-        add_packed(body, width, given, runs)?;
-        Ok(given)
-    }
-}
 
 /// How many whole bytes a value of so many bits takes.
 pub(crate) fn bytes_for(width: u32) -> usize
@@ -107,7 +21,11 @@ pub(crate) fn bytes_for(width: u32) -> usize
 }
 
 /// The bytes of so many groups of eight values. B1 where they aren't all there.
-fn take_groups<'a>(cursor: &mut Cursor<'a>, width: u32, groups: u64) -> Result<&'a [u8], ByteFault>
+pub(crate) fn take_groups<'a>(
+    cursor: &mut Cursor<'a>,
+    width: u32,
+    groups: u64,
+) -> Result<&'a [u8], ByteFault>
     requires { width ≤ 32 }
     ensures { GivesFront (λ bytes. bytes.now) (bytes_at (groups * width) cursor.old) cursor.old result cursor.new }
 {
@@ -119,7 +37,7 @@ fn take_groups<'a>(cursor: &mut Cursor<'a>, width: u32, groups: u64) -> Result<&
 }
 
 /// How many values so many groups give where so many are wanted.
-fn values_in(groups: u64, wanted: u64) -> u64
+pub(crate) fn values_in(groups: u64, wanted: u64) -> u64
     ensures { result ≡ min wanted (8 * groups) }
 {
     if groups > wanted / 8 {
@@ -130,7 +48,7 @@ fn values_in(groups: u64, wanted: u64) -> u64
 }
 
 /// The number that at most four bytes stand for, the low byte first.
-fn low_first(bytes: &[u8]) -> u64
+pub(crate) fn low_first(bytes: &[u8]) -> u64
     requires { length bytes.now ≤ 4 }
     ensures value { result ≡ low_first bytes.now }
     ensures small { result < 256 ^ length bytes.now }
@@ -142,7 +60,7 @@ fn low_first(bytes: &[u8]) -> u64
 }
 
 /// Adds equal values, to the last run where they are equal to its own.
-fn push_run(runs: &mut Vec<Run>, value: u64, count: u64) -> Result<(), AllocError>
+pub(crate) fn push_run(runs: &mut Vec<Run>, value: u64, count: u64) -> Result<(), AllocError>
     ensures { OnOk result (values_of runs.new.items ≡ values_of runs.old.items ++ replicate count value) }
 {
     if let Some(last) = runs.last_mut() {
@@ -186,7 +104,7 @@ fn add_packed(body: &[u8], width: u32, count: u64, runs: &mut Vec<Run>) -> Resul
 
 /// Bits that are taken from bytes, the low bit first.
 #[derive(Drop)]
-struct Bits<'a> {
+pub(crate) struct Bits<'a> {
     /// The bytes that weren't looked at.
     rest: &'a [u8],
     /// The bits that were taken from bytes and not yet given, as a number.
@@ -196,7 +114,7 @@ struct Bits<'a> {
 }
 
 impl<'a> Bits<'a> {
-    fn new(bytes: &'a [u8]) -> Bits<'a>
+    pub(crate) fn new(bytes: &'a [u8]) -> Bits<'a>
         ensures left { number_left result ≡ low_first bytes.now }
         ensures held { IsHeld result }
     {
@@ -208,7 +126,7 @@ impl<'a> Bits<'a> {
     }
 
     /// The next so many bits as a number. Behind the last byte there are zeros.
-    fn next(&mut self, width: u32) -> u64
+    pub(crate) fn next(&mut self, width: u32) -> u64
         requires width { width ≤ 32 }
         requires held { IsHeld self.old }
         ensures value { result ≡ number_left self.old % 2 ^ width }
@@ -216,9 +134,9 @@ impl<'a> Bits<'a> {
         ensures held { IsHeld self.new }
     {
         self.fill(width);
-        let base = 1u64 << width;
-        let value = self.buffer % base;
-        self.buffer /= base;
+        let rest = self.buffer >> width;
+        let value = self.buffer - (rest << width);
+        self.buffer = rest;
         self.held = self.held.saturating_sub(width);
         value
     }

@@ -5,6 +5,7 @@
 mod cursor;
 mod fault;
 mod hybrid;
+mod hybrid_reader;
 mod hybrid_writing;
 mod laws;
 mod run;
@@ -13,7 +14,8 @@ mod writing;
 
 pub use cursor::Cursor;
 pub use fault::ByteFault;
-pub use hybrid::{hybrid_read, unpack};
+pub use hybrid::unpack;
+pub use hybrid_reader::{HybridReader, hybrid_read, hybrid_test};
 pub use hybrid_writing::hybrid_write;
 pub use laws::{
     a_hybrid_is_read_where_it_stands, a_number_is_read_where_it_stands,

@@ -39,7 +39,7 @@ fn column_of(
     count: u64,
 ) -> Result<Column<Value>, FileError> {
     test_chunk(alloc, &leaf, bytes, offset, count)?;
-    let mut reader = ColumnReader::open(alloc, leaf, bytes, offset, count)?;
+    let mut reader = ColumnReader::open(leaf, bytes, offset, count)?;
     let mut column = Column {
         levels: Vec::new(alloc),
         values: Vec::new(alloc),

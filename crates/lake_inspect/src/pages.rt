@@ -84,9 +84,9 @@ fn tell_pages_from(
         }
         tell_header_at(leaf, bytes, place, told);
         let page = told.given(read_page(told.alloc(), leaf, bytes, place, left))?;
-        tell_levels(leaf.highest(), &page, told);
         left = left.saturating_sub(page.num_values());
         place = page.next();
+        tell_levels(leaf.highest(), page, told);
     }
     Ok(())
 }
@@ -102,16 +102,17 @@ fn tell_header_at(leaf: &Leaf, bytes: &[u8], place: usize, told: &mut Transcript
 }
 
 /// Tells the levels of a page, as runs that are as long as can be, and how many of its values aren't null.
-fn tell_levels(highest: u64, page: &Page, told: &mut Transcript) {
+fn tell_levels(highest: u64, page: Page, told: &mut Transcript) {
     told.line(if page.num_values() == 0 {
         "no levels"
     } else {
         "levels"
     });
+    let mut levels = page.into_levels();
     let mut last = Run { value: 0, count: 0 };
     let mut present = 0u64;
-    for run in page.levels() {
-        if run.count > 0 && run.value != last.value {
+    while let Some(run) = levels.next(u64::MAX) {
+        if run.value != last.value {
             tell_run(last, told);
             last = Run {
                 value: run.value,

@@ -1,5 +1,5 @@
 -- The lemmas that proofs of other crates may cite.
-pub use Rattle.page_cells.proofs.CodeRuns.{all_in_runs, levels_count}
+pub use Rattle.page_cells.proofs.CodeRuns.{levels_count}
 pub use Rattle.page_cells.proofs.CodeSteps.{fine_step, kept_step, ok_step}
 pub use Rattle.page_cells.proofs.FoundSteps.{allowed, bind_ok, bytes_after, bytes_behind, bytes_first, held, no_fault, ok_is, told_ok}
 pub use Rattle.page_cells.proofs.LevelsFound.{LevelsInFront, levels_found}

@@ -1,54 +1,18 @@
--- Levels as runs: what is asked of each level is asked of each run.
-use Rattle.std.proofs.Common.{◌≡◌, ℕ, zero, suc, w32, ◌+◌, ◌-◌, ◌*◌, Bool, true, false, ◌||◌, ◌&&◌, cond, eqb, nat_eq, nat_le, List, [], ◌∷◌, ◌++◌, length, take, map, replicate, Result, Ok, Err, refl, sym, ap, ◌∙◌, arith, append_assoc}
+-- Truth values as runs, and how many levels are read.
+use Rattle.std.proofs.Common.{◌≡◌, ℕ, zero, suc, w32, ◌-◌, Bool, true, false, cond, eqb, nat_le, List, [], ◌∷◌, ◌++◌, length, take, map, replicate, Result, Ok, Err, refl, sym, ap, ◌∙◌, arith, append_assoc}
 use Rattle.std.specs.List.{list_all}
 use Rattle.std.proofs.lemmas.List.{length-append, length-replicate, length-take, map-append}
-use Rattle.std.proofs.lemmas.Bool.{ne_eqb}
-use Rattle.std.proofs.lemmas.List.Folds.{list_all-append, sum_by-replicate}
-use Rattle.std.proofs.lemmas.List.Sums.{sum_by-append}
 use Rattle.lake_bytes.specs.LittleEndian.{little_at}
 use Rattle.lake_bytes.specs.Reading.{bytes_at}
 use Rattle.outcomes.specs.Results.{◌>>=◌}
 use Rattle.lake_bytes.specs.declared.fault.ByteFault.{ByteFault}
 use Rattle.lake_bytes.specs.declared.fault.ByteFault.TheVariants.{OutOfRange}
 use Rattle.lake_bytes.specs.Hybrid.{hybrid_at, run_at, runs_at, values_of}
-use Rattle.page_cells.specs.Levels.{levels_at, none_above, told_levels_at, width_of, present}
+use Rattle.page_cells.specs.Levels.{levels_at, none_above, told_levels_at, width_of}
 use Rattle.lake_bytes.specs.declared.run.Run.{Run}
 use Rattle.row_core.specs.Rows.{Value}
 use Rattle.page_cells.specs.Plain.{truth_of}
 use Rattle.page_cells.proofs.CodeSteps.{ok_step}
-
--- ---- each level
-
-all_equal : {A : Type 0} (test : A → Bool) (x : A) (n : ℕ) → list_all test (replicate (suc n) x) ≡ test x
-all_equal test x zero = elim (test x) as (λ (b : Bool). (b && true) ≡ b) [ true ↦ refl | false ↦ refl ]
-all_equal test x (suc n) = ap (λ (b : Bool). test x && b) (all_equal test x n)
-    ∙ elim (test x) as (λ (b : Bool). (b && b) ≡ b) [ true ↦ refl | false ↦ refl ]
-
-all_repeated : {A : Type 0} (test : A → Bool) (x : A) (n : ℕ) → list_all test (replicate n x) ≡ (nat_eq n 0 || test x)
-all_repeated test x zero = refl
-all_repeated test x (suc n) = rw (ne_eqb (suc n) 0 (omega arith)) (all_equal test x n)
-
-pub all_in_runs : (test : ℕ → Bool) (runs : List Run)
-    → list_all (λ run. nat_eq run.count 0 || test run.value) runs ≡ list_all test (values_of runs)
-all_in_runs test [] = refl
-all_in_runs test (run ∷ runs) =
-    sym (list_all-append test (replicate run.count run.value) (values_of runs)
-    ∙ ap (λ (b : Bool). b && list_all test (values_of runs)) (all_repeated test run.value run.count)
-    ∙ ap (λ (b : Bool). (nat_eq run.count 0 || test run.value) && b) (sym (all_in_runs test runs)))
-
--- ---- how many are the highest
-
-pub present_in : (top : ℕ) (run : Run) (runs : List Run)
-    → present top (values_of (run ∷ runs)) ≡ cond (nat_eq run.value top) run.count 0 + present top (values_of runs)
-present_in top run runs =
-    let joined = sum_by-append (λ level. cond (nat_eq level top) 1 0) (replicate run.count run.value)
-    (values_of runs) in
-    let equal = sum_by-replicate (λ level. cond (nat_eq level top) 1 0) run.count run.value in
-    joined ∙ ap (λ (n : ℕ). n + present top (values_of runs)) (equal ∙ times (nat_eq run.value top))
-  where
-    times : (b : Bool) → run.count * cond b 1 0 ≡ cond b run.count 0
-    times true = omega arith
-    times false = omega arith
 
 -- ---- truth values
 

@@ -7,6 +7,7 @@ pub mod CodeValues
 pub mod FoundSteps
 pub mod LevelsFound
 pub mod LevelsOnly
+pub mod LevelsSeen
 pub mod Lists
 pub mod PartsJoined
 pub mod PlainFound

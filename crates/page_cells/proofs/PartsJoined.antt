@@ -1,5 +1,5 @@
 -- What is kept of a list and of one behind it, and of runs.
-use Rattle.std.proofs.Common.{◌≡◌, ℕ, zero, suc, ◌+◌, ◌-◌, ◌≤◌, min, List, [], ◌∷◌, ◌++◌, length, take, drop, replicate, refl, sym, ap, ◌∙◌, arith, append_assoc}
+use Rattle.std.proofs.Common.{◌≡◌, ℕ, zero, suc, ◌-◌, ◌≤◌, min, List, [], ◌∷◌, ◌++◌, length, take, drop, replicate, refl, sym, ap, ◌∙◌, arith, append_assoc}
 use Rattle.std.proofs.lemmas.List.{append-nil, drop-replicate, length-drop, length-replicate, take_min, take-replicate}
 use Rattle.std.proofs.lemmas.Grind.{flat_map-append}
 use Rattle.lake_bytes.specs.Hybrid.{values_of}

@@ -1,5 +1,5 @@
 -- What a reader of a page's values has left.
-use Rattle.std.specs.Prelude.{◌≡◌, ℕ, ◌<◌, ◌≤◌, ◌^◌, List, [], length, drop, All, true, Ok}
+use Rattle.std.specs.Prelude.{◌≡◌, ◌<◌, ◌≤◌, ◌^◌, List, [], length, drop, All, true, Ok}
 use Rattle.row_core.specs.Rows.{Value}
 use Rattle.page_cells.specs.Plain.{plain_at}
 use Rattle.page_cells.specs.Texts.{is_proper}

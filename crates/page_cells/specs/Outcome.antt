@@ -1,14 +1,9 @@
 -- What a function answered, next to what reading gives: the same, unless memory ran out.
-use Rattle.std.specs.Prelude.{◌≡◌, ℕ, List, ◌++◌, Bool, true, Result, Ok, Err, Vec}
+use Rattle.std.specs.Prelude.{◌≡◌, ℕ, List, ◌++◌, Bool, true, Result, Ok, Err}
 use Rattle.std.specs.List.{list_all, list_any}
 use Rattle.row_core.specs.Rows.{Value}
 use Rattle.page_cells.specs.Texts.{is_proper, is_too_long}
-use Rattle.std.specs.declared.alloc.Global.{Global}
 use Rattle.lake_bytes.specs.declared.fault.ByteFault.{ByteFault}
-use Rattle.lake_bytes.specs.Hybrid.{values_of}
-use Rattle.lake_bytes.specs.declared.run.HybridError.{HybridError}
-use Rattle.lake_bytes.specs.declared.run.HybridError.TheVariants as numbers
-use Rattle.lake_bytes.specs.declared.run.Run.{Run}
 use Rattle.thrift_values.specs.declared.fault.ThriftFault.TheVariants.{Bytes}
 use Rattle.parquet_footer.specs.declared.fault.FileFault.{FileFault}
 use Rattle.parquet_footer.specs.declared.fault.FileError.{FileError}
@@ -18,12 +13,6 @@ use Rattle.parquet_footer.specs.declared.fault.FileFault.TheVariants.{BadPage}
 -- a fault in bytes, told as a page's
 abbrev pub in_page : ByteFault → FileFault
 in_page fault = BadPage (Bytes fault)
-
--- Runs of what reading gives, and the bytes behind it; or the fault.
-abbrev pub Passes : Result (List ℕ × List ℕ) ByteFault → Result (Vec Run Global) HybridError → List ℕ → Type 0
-Passes read (Ok runs) new = read ≡ Ok (values_of runs.items, new)
-Passes read (Err numbers.Memory) new = Unit {0}
-Passes read (Err (numbers.Fault fault)) new = read ≡ Err fault
 
 -- Values that reading gives were passed, and the bytes behind them are left; whether one is too long. Or the fault.
 abbrev pub PassesValues : Result (List Value × List ℕ) ByteFault → Result Bool ByteFault → List ℕ → Type 0

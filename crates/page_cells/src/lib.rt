@@ -11,7 +11,7 @@ mod types;
 mod values;
 
 pub use fault::{bad_bytes, bad_page};
-pub use levels::{present, read_levels, width_of};
+pub use levels::{LevelsTold, present, test_levels, width_of};
 pub use part::cut_runs;
 pub use plain::pass_values;
 pub use testing::{are_in_range, are_proper};

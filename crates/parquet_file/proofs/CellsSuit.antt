@@ -18,7 +18,7 @@ use Rattle.shred.specs.Ways.{Step, level_inside, ways}
 use Rattle.shred.proofs.Callers.{cells_length, cells_of, cells_of_fields}
 use Rattle.row_assembly.proofs.Callers.{has_way}
 use Rattle.page_cells.specs.Texts.{is_proper}
-use Rattle.parquet_pages.specs.Pages.{may_stand}
+use Rattle.page_cells.specs.Levels.{may_stand}
 use Rattle.page_cells.specs.Types.{leaf_type, primitive_of}
 use Rattle.page_cells.specs.declared.types.LeafType.{LeafType}
 use Rattle.page_cells.specs.declared.types.LeafType.TheVariants as leaf

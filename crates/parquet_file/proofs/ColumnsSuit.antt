@@ -14,7 +14,8 @@ use Rattle.shred.specs.Fits.{FitsShape}
 use Rattle.shred.specs.Shape.{Shape}
 use Rattle.shred.specs.Ways.{Step, ways}
 use Rattle.shred.proofs.Callers.{cells_length, cells_of, columns_found, fronts, matrix}
-use Rattle.parquet_pages.specs.Pages.{Suits, may_stand}
+use Rattle.parquet_pages.specs.Pages.{Suits}
+use Rattle.page_cells.specs.Levels.{may_stand}
 use Rattle.page_cells.specs.Texts.{is_proper}
 use Rattle.page_cells.specs.Types.{primitive_of}
 use Rattle.parquet_schema.specs.FileTree.{FileNode}

@@ -43,8 +43,7 @@ pub struct FilePart {
 ///
 /// The time is linear in the footer's bytes, those of the pages of each group, and rows times leaves; pages that
 /// several groups state are read for each, and paths are compared leaf by chunk. Beside the footer the memory holds at
-/// most the rows that the file claims, and of each leaf the levels of one page, as runs, and the cells of the rows that
-/// are made of the pages at hand.
+/// most the rows that the file claims, and of each leaf the cells of 4,096 of them; of a page nothing else is kept.
 pub fn read_rows<A: Allocator, H: Allocator + Copy>(
     alloc: Global,
     heap: H,
@@ -72,9 +71,9 @@ pub fn read_rows<A: Allocator, H: Allocator + Copy>(
 /// The time is linear in the footer's bytes, the headers and levels of the pages of each group, the bytes of columns of
 /// texts, bytes, and numbers of one or two bytes, and the rows that are given times the leaves; other values of a fixed
 /// size cost nothing. Each page is gone through once, and once more where a row that is given stands in it; of a group
-/// in front the last page of each leaf is too. Where the table has a struct, all pages are, with their runs of levels
-/// and each 4,096 of their rows times the leaves. Beside the footer the memory holds the rows that are given, and of
-/// each leaf the levels of one page, as runs, and the cells of the rows that are made of the pages at hand.
+/// in front the last page of each leaf is too. Where the table has a struct, all pages are, with their levels and each
+/// 4,096 of their rows times the leaves. Beside the footer the memory holds the rows that are given, and of each leaf the
+/// cells of 4,096 rows; of a page nothing else is kept.
 pub fn read_part<A: Allocator, H: Allocator + Copy>(
     alloc: Global,
     heap: H,

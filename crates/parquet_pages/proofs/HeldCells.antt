@@ -1,6 +1,6 @@
--- Cells taken from the front of those that are held: runs of levels, and columns.
-use Rattle.std.proofs.Common.{◌≡◌, ℕ, ◌+◌, ◌-◌, ◌≤◌, ◌<◌, ◌^◌, cond, nat_eq, true, List, [], ◌∷◌, ◌++◌, length, take, drop, replicate, Err, refl, sym, ap, ◌∙◌, arith, append_assoc}
-use Rattle.std.proofs.lemmas.List.{drop-append-le, drop_all, drop-drop, drop-take, length-drop, length-take, replicate-append-replicate, take-append-le, take-take, take_all}
+-- Cells taken from the front of those that are held: levels, and columns.
+use Rattle.std.proofs.Common.{◌≡◌, ℕ, ◌+◌, ◌-◌, ◌≤◌, ◌<◌, ◌^◌, cond, nat_eq, true, List, ◌++◌, length, take, drop, Err, refl, sym, ap, ◌∙◌, arith}
+use Rattle.std.proofs.lemmas.List.{drop-append-le, drop-drop, drop-take, length-drop, length-take, take-append-le, take-take}
 use Rattle.std.proofs.lemmas.List.Elements.{All-drop, All-take}
 use Rattle.std.proofs.lemmas.List.Sums.{sum_by-take-drop, sum_by-take-le}
 use Rattle.lake_bytes.specs.Hybrid.{values_of}
@@ -14,17 +14,8 @@ use Rattle.parquet_footer.specs.declared.fault.FileError.TheVariants as errors
 use Rattle.page_cells.specs.Outcome.{FindsWhere}
 use Rattle.parquet_pages.specs.Pages.{joined}
 use Rattle.page_cells.specs.Levels.{present}
-use Rattle.page_cells.proofs.Callers.{drop_both, take_both}
 
 -- ---- lists
-
-take_behind : {A : Type 0} (n : ℕ) (xs ys : List A) → length xs ≤ n → take n (xs ++ ys) ≡ xs ++ take (n - length xs) ys
-take_behind n xs ys short =
-    take_both n xs ys ∙ ap (λ zs. zs ++ take (n - length xs) ys) (take_all n xs short)
-
-drop_behind : {A : Type 0} (n : ℕ) (xs ys : List A) → length xs ≤ n → drop n (xs ++ ys) ≡ drop (n - length xs) ys
-drop_behind n xs ys short =
-    drop_both n xs ys ∙ ap (λ zs. zs ++ drop (n - length xs) ys) (drop_all n xs short)
 
 -- what is kept of the front is kept of the whole
 pub part_front : {A : Type 0} (first most whole : ℕ) (xs : List A) → first + most ≤ whole
@@ -35,47 +26,6 @@ part_front first most whole xs within =
     ap (λ (n : ℕ). part_of first most (take n xs)) all
     ∙ ap (take most) (drop-take first (whole - first) xs)
     ∙ take-take most (whole - first) (drop first xs) few
-
--- ---- runs
-
--- What is taken of a run and what is left of it, in front of the runs behind it, are the run and these.
-pub run_in_two : (run : Run) (runs left : List Run) (kept : ℕ) → kept ≤ run.count
-    → left ≡ record { value = run.value; count = run.count - kept } ∷ runs
-    → values_of (run ∷ runs) ≡ replicate kept run.value ++ values_of left
-run_in_two run runs left kept less is =
-    let all : kept + (run.count - kept) ≡ run.count = omega arith in
-    let both : replicate run.count run.value ≡ replicate kept run.value ++ replicate (run.count - kept) run.value =
-    ap (λ (n : ℕ). replicate n run.value) (sym all)
-    ∙ sym (replicate-append-replicate kept (run.count - kept) run.value) in
-    ap (λ (xs : List ℕ). xs ++ values_of runs) both
-    ∙ append_assoc (replicate kept run.value) (replicate (run.count - kept) run.value) (values_of runs)
-    ∙ ap (λ (rs : List Run). replicate kept run.value ++ values_of rs) (sym is)
-
--- a run that is taken whole
-pub run_whole : (run : Run) (runs left : List Run) (kept : ℕ) → kept ≡ run.count → left ≡ runs
-    → values_of (run ∷ runs) ≡ replicate kept run.value ++ values_of left
-run_whole run runs left kept all is = rw (all, is) refl
-
--- What is taken and what is wanted behind it stay the same where some of what is wanted is taken.
-pub take_goes_on : (old new some runs left whole : List ℕ) (wanted kept : ℕ) → kept ≤ wanted → length some ≡ kept
-    → runs ≡ some ++ left → new ≡ old ++ some → old ++ take wanted runs ≡ whole
-    → new ++ take (wanted - kept) left ≡ whole
-take_goes_on old new some runs left whole wanted kept less many is added so_far =
-    let short : length some ≤ wanted = omega arith in
-    let here : take wanted runs ≡ some ++ take (wanted - kept) left =
-    ap (take wanted) is ∙ take_behind wanted some left short
-    ∙ ap (λ (n : ℕ). some ++ take (wanted - n) left) many in
-    ap (λ (xs : List ℕ). xs ++ take (wanted - kept) left) added
-    ∙ append_assoc old some (take (wanted - kept) left)
-    ∙ ap (λ (xs : List ℕ). old ++ xs) (sym here) ∙ so_far
-
--- And so does what is behind it.
-pub drop_goes_on : (some runs left whole : List ℕ) (wanted kept : ℕ) → kept ≤ wanted → length some ≡ kept
-    → runs ≡ some ++ left → drop wanted runs ≡ whole → drop (wanted - kept) left ≡ whole
-drop_goes_on some runs left whole wanted kept less many is so_far =
-    let short : length some ≤ wanted = omega arith in
-    ap (λ (n : ℕ). drop (wanted - n) left) (sym many) ∙ sym (drop_behind wanted some left short)
-    ∙ ap (drop wanted) (sym is) ∙ so_far
 
 -- ---- cells
 
@@ -123,6 +73,14 @@ cut_behind top count a b within each =
     (drop (present top (take count a.levels)) a.values ++ b.values) (drop-append-le count a.levels b.levels within)
     (ap (λ (ls : List ℕ). drop (present top ls) (a.values ++ b.values)) levels
     ∙ drop-append-le (present top (take count a.levels)) a.values b.values less)
+
+-- there are the values of the front
+pub front_few : (top count : ℕ) (c : Column) → present top c.levels ≡ length c.values
+    → present top (take count c.levels) ≤ length c.values
+front_few top count c each =
+    let is_top : ℕ → ℕ = λ level. cond (nat_eq level top) 1 0 in
+    let few : present top (take count c.levels) ≤ present top c.levels = sum_by-take-le is_top c.levels count in
+    omega arith
 
 -- there is a value for each highest level in the front, and behind it
 pub front_each : (top count : ℕ) (c : Column) → present top c.levels ≡ length c.values

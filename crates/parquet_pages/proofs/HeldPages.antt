@@ -4,7 +4,6 @@ use Rattle.std.proofs.lemmas.Bool.{ne_eqb}
 use Rattle.std.proofs.lemmas.List.{length-append, nil_from_length}
 use Rattle.std.proofs.lemmas.List.Elements.{All-nil, All-append}
 use Rattle.std.proofs.lemmas.List.Sums.{sum_by-append}
-use Rattle.lake_bytes.specs.Hybrid.{values_of}
 use Rattle.outcomes.specs.Results.{◌>>=◌}
 use Rattle.row_core.specs.Rows.{Value}
 use Rattle.shred.specs.Columns.{Column}
@@ -296,7 +295,7 @@ chunk_pages l given stated (suc n) place c (inr at_place) h =
 
 -- A reader that holds no cells, and stands where a chunk's pages begin, has its column left.
 pub opened : (l : Leaf) (r : ColumnReader) (stated : ℤ) (c : Column) → leaf_view r.leaf ≡ l → r.count ≡ 0
-    → r.levels.items ≡ [] → HasValuesLeft l.leaf_type r.values []
+    → r.levels ≡ [] → HasValuesLeft l.leaf_type r.values []
     → (r.left ≡ 0) ⊎ (first_place stated ≡ Ok r.place)
     → chunk_at l r.bytes.now stated r.left ≡ Ok c → AreLeft l r c
 opened l r stated c leaf none no_levels no_values begins h = record {
@@ -306,7 +305,7 @@ opened l r stated c leaf none no_levels no_values begins h = record {
   held = record {
     leaf = leaf;
     counted = none;
-    levels = ap values_of no_levels;
+    levels = no_levels;
     values = no_values;
     value_each = refl;
     plain = All-nil (λ v. is_plain v ≡ true);

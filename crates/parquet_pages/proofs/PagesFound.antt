@@ -11,8 +11,8 @@ use Rattle.row_core.specs.Conforms.{is_leaf_value}
 use Rattle.row_core.specs.Rows.{Value}
 use Rattle.shred.specs.Columns.{Column}
 use Rattle.parquet_pages.specs.Headers.{Header}
-use Rattle.page_cells.specs.Levels.{levels_at, present}
-use Rattle.parquet_pages.specs.Pages.{ArePages, ChunkHolds, IsBody, IsPage, Leaf, Suits, from_place, has_levels, highest, joined, may_stand, no_cells, no_page, page, plain_header, without_rows}
+use Rattle.page_cells.specs.Levels.{levels_at, may_stand, present}
+use Rattle.parquet_pages.specs.Pages.{ArePages, ChunkHolds, IsBody, IsPage, Leaf, Suits, from_place, has_levels, highest, joined, no_cells, no_page, page, plain_header, without_rows}
 use Rattle.page_cells.specs.Texts.{is_proper, is_too_long}
 use Rattle.page_cells.specs.Plain.{plain_at}
 use Rattle.parquet_pages.specs.Reading.{body_at, cells_at, chunk_at, column_in, first_place, has_mismatch, header_at, page_at, pages_at, tested}

@@ -13,7 +13,8 @@ use Rattle.row_core.specs.Conforms.{is_byte, is_leaf_value, is_short, max_bytes}
 use Rattle.row_core.specs.Rows.{Value, text, bytes}
 use Rattle.shred.specs.Columns.{Column}
 use Rattle.parquet_pages.specs.Headers.{Header, header_of}
-use Rattle.parquet_pages.specs.Pages.{ArePages, ChunkHolds, IsBody, IsPage, Leaf, Suits, from_place, has_levels, highest, joined, may_stand, no_page, page, plain_header, rle_where, without_rows}
+use Rattle.parquet_pages.specs.Pages.{ArePages, ChunkHolds, IsBody, IsPage, Leaf, Suits, from_place, has_levels, highest, joined, no_page, page, plain_header, rle_where, without_rows}
+use Rattle.page_cells.specs.Levels.{may_stand}
 use Rattle.page_cells.specs.Texts.{is_proper, is_too_long}
 use Rattle.parquet_pages.specs.Reading.{body_at, cells_at, chunk_at, column_in, encoding_fault, first_place, header_at, page_at, pages_at, tested, unless_fault}
 use Rattle.page_cells.specs.Types.{primitive_of}

@@ -2,10 +2,9 @@
 use Rattle.std.proofs.Common.{◌≡◌, ℕ, ◌+◌, ◌-◌, ◌<◌, ◌≤◌, ◌⊎◌, inl, inr, true, cond, nat_eq, List, [], ◌++◌, length, take, drop, Result, Ok, Err, refl, sym, ap, subst, ◌∙◌, append_assoc, arith}
 use Rattle.std.proofs.Math.Seq.{drop-nil, take-nil}
 use Rattle.std.proofs.lemmas.Bool.{cases_lt}
-use Rattle.std.proofs.lemmas.List.{drop-drop, drop-take, drop_at, length-append, take-take, take_at}
+use Rattle.std.proofs.lemmas.List.{drop-drop, drop-take, drop_at, length-append, length-drop, take-take, take_at}
 use Rattle.std.proofs.lemmas.List.Elements.{All-nil}
 use Rattle.std.proofs.lemmas.List.Sums.{sum_by-take-drop}
-use Rattle.lake_bytes.specs.Hybrid.{values_of}
 use Rattle.shred.specs.Columns.{Column}
 use Rattle.shred.specs.Fits.{is_plain}
 use Rattle.shred.specs.Parts.{cut_off}
@@ -24,7 +23,7 @@ use Rattle.parquet_footer.specs.declared.fault.FileFault.{FileFault}
 use Rattle.parquet_pages.proofs.CodeChunks.{next_page, no_page_left, page_fits, with_column}
 use Rattle.page_cells.proofs.Callers.{ok_step}
 use Rattle.parquet_pages.proofs.HeldPages.{IsFull, both_full, page_full}
-use Rattle.parquet_pages.proofs.HeldCells.{same_column}
+use Rattle.parquet_pages.proofs.HeldCells.{behind_each, behind_plain, cut_behind, same_column}
 
 -- ---- cells that are passed
 
@@ -68,6 +67,35 @@ passed_all a b top c less none =
     let all : b ≡ a + (b - a) = omega arith in
     ap (λ (n : ℕ). cut_off n top c) all ∙ sym (passed_twice a (b - a) top c)
     ∙ none_passed (b - a) top (cut_off a top c) none
+
+-- Where so many cells of the page at hand are gone, the column behind them is left.
+pub left_behind : (l : Leaf) (old new : ColumnReader) (count : ℕ) (c : Column) (left : AreLeft l old c) → count ≤ old.count
+    → new.leaf ≡ old.leaf → new.bytes.now ≡ old.bytes.now → new.place ≡ old.place → new.left ≡ old.left
+    → new.count ≡ old.count - count → new.levels ≡ drop count old.levels
+    → HasValuesLeft l.leaf_type new.values
+    (drop (present (highest l) (take count left.here.levels)) left.here.values)
+    → AreLeft l new (cut_off count (highest l) c)
+left_behind l old new count c left less leaf bytes place more counted levels values =
+    let held = left.held in
+    let here = left.here in
+    let top = highest l in
+    let within : count ≤ length here.levels = omega (arith, less, held.counted) in
+    record {
+      here = cut_off count top here;
+      behind = left.behind;
+      parts = ap (cut_off count top) left.parts ∙ cut_behind top count here left.behind within held.value_each;
+      held = record {
+        leaf = ap leaf_view leaf ∙ held.leaf;
+        counted = counted ∙ ap (λ (n : ℕ). n - count) held.counted ∙ sym (length-drop count here.levels);
+        levels = levels ∙ ap (drop count) held.levels;
+        values = values;
+        value_each = behind_each top count here held.value_each;
+        plain = behind_plain top count here held.plain;
+      };
+      most = left.most;
+      few = rw bytes left.few;
+      read = rw (bytes, place, more) left.read;
+    }
 
 -- So many cells of those that are wanted were passed, and so many are still to be passed.
 pub record PassedSoFar (l : Leaf) (r : ColumnReader) (count wanted : ℕ) (c : Column) : Type 0 where
@@ -273,7 +301,7 @@ behind_front top front behind each =
 
 -- A reader that holds no cells, and stands at a mark, has what stands behind the mark left.
 pub marked_left : (l : Leaf) (r : ColumnReader) (count before : ℕ) (mark : Mark) (c : Column)
-    (is : IsMark l r.bytes.now count before mark c) → leaf_view r.leaf ≡ l → r.count ≡ 0 → r.levels.items ≡ []
+    (is : IsMark l r.bytes.now count before mark c) → leaf_view r.leaf ≡ l → r.count ≡ 0 → r.levels ≡ []
     → HasValuesLeft l.leaf_type r.values [] → r.place ≡ mark.place → r.left ≡ mark.left
     → AreLeft l r (cut_off (count - mark.left) (highest l) c)
 marked_left l r count before mark c is leaf none no_levels no_values place left =
@@ -288,7 +316,7 @@ marked_left l r count before mark c is leaf none no_levels no_values place left 
       held = record {
         leaf = leaf;
         counted = none;
-        levels = ap values_of no_levels;
+        levels = no_levels;
         values = no_values;
         value_each = refl;
         plain = All-nil (λ v. is_plain v ≡ true);

@@ -1,6 +1,5 @@
 -- What a reader of a column's pages has left.
 use Rattle.std.specs.Prelude.{◌≡◌, ℕ, ◌+◌, ◌≤◌, List, [], length, Result, Ok, Err}
-use Rattle.lake_bytes.specs.Hybrid.{values_of}
 use Rattle.shred.specs.Columns.{Column}
 use Rattle.shred.specs.Parts.{ArePlain}
 use Rattle.parquet_footer.specs.declared.fault.FileError.{FileError}
@@ -18,7 +17,7 @@ use Rattle.parquet_pages.specs.declared.reader.ColumnReader.{ColumnReader}
 pub record HoldsPage (l : pages.Leaf) (r : ColumnReader) (c : Column) : Type 0 where
   pub leaf : leaf_view r.leaf ≡ l
   pub counted : r.count ≡ length c.levels
-  pub levels : values_of r.levels.items ≡ c.levels
+  pub levels : r.levels ≡ c.levels
   pub values : HasValuesLeft l.leaf_type r.values c.values
   pub value_each : present (highest l) c.levels ≡ length c.values
   pub plain : ArePlain c

@@ -1,11 +1,11 @@
 -- Which bytes are the data pages of a column (Apache Parquet, "Data Pages" and "Column Chunks").
-use Rattle.std.specs.Prelude.{◌≡◌, ℕ, zero, suc, ◌+◌, ◌<◌, ◌≤◌, ◌==◌, ℤ, pos, List, [], ◌∷◌, ◌++◌, length, All, Bool, true, not, Option, Some, None, Ok, if◌then◌else◌}
+use Rattle.std.specs.Prelude.{◌≡◌, ℕ, ◌+◌, ◌<◌, ◌≤◌, ◌==◌, ℤ, pos, List, [], ◌++◌, length, All, Bool, true, not, Option, Some, None, Ok, if◌then◌else◌}
 use Rattle.thrift_core.specs.Spelling.{SpellsStruct}
 use Rattle.thrift_core.specs.Tree.{Tree}
 use Rattle.row_core.specs.Conforms.{is_leaf_value}
 use Rattle.shred.specs.Columns.{Column}
 use Rattle.parquet_pages.specs.Headers.{Header, data_page, header_of}
-use Rattle.page_cells.specs.Levels.{AreLevels, present}
+use Rattle.page_cells.specs.Levels.{AreLevels, may_stand, present}
 use Rattle.page_cells.specs.Plain.{IsPlain}
 use Rattle.page_cells.specs.Texts.{is_proper}
 use Rattle.page_cells.specs.Types.{physical_type, primitive_of}
@@ -76,12 +76,6 @@ pub data ChunkHolds (l : Leaf) (given : List ℕ) (stated : ℤ) : Column → Ty
   from_place : (place : ℕ) (c : Column) → stated ≡ pos place → 4 ≤ place → ArePages l given place c → ChunkHolds l given stated c
 
 -- ---- what a table lets a leaf hold
-
--- the flag of the node at which a null stands; nothing stands at the highest level
-abbrev pub may_stand : List Bool → (level : ℕ) → Bool
-may_stand [] level = true
-may_stand (flag ∷ flags) zero = flag
-may_stand (flag ∷ flags) (suc level) = may_stand flags level
 
 -- The values are of the leaf's type, in its range, and their texts are UTF-8; nulls stand where the table has them.
 pub record Suits (l : Leaf) (c : Column) : Type 0 where

@@ -1,5 +1,5 @@
 -- Reading the pages of a column: this part of it, or the first fault in the order of the tests.
-use Rattle.std.specs.Prelude.{ℕ, zero, suc, ◌+◌, ◌-◌, ◌==◌, ◌||◌, not, ℤ, pos, List, length, take, drop, Bool, false, nat_lt, unsigned_abs, Option, Some, None, Result, Ok, Err, if◌then◌else◌}
+use Rattle.std.specs.Prelude.{ℕ, zero, suc, ◌+◌, ◌-◌, ◌==◌, ◌||◌, not, ℤ, pos, List, length, take, drop, Bool, nat_lt, unsigned_abs, Option, Some, None, Result, Ok, Err, if◌then◌else◌}
 use Rattle.std.specs.Int.Signed.{le_z}
 use Rattle.std.specs.List.{list_all, list_any}
 use Rattle.std.specs.Ordering.{int_eq}
@@ -9,8 +9,8 @@ use Rattle.thrift_core.specs.Reading.{struct_at}
 use Rattle.row_core.specs.Conforms.{is_leaf_value}
 use Rattle.shred.specs.Columns.{Column}
 use Rattle.parquet_pages.specs.Headers.{Header, Content, data_page, dictionary_page, other_page, header_of}
-use Rattle.page_cells.specs.Levels.{levels_at, present}
-use Rattle.parquet_pages.specs.Pages.{Leaf, highest, has_levels, joined, no_cells, may_stand}
+use Rattle.page_cells.specs.Levels.{levels_at, may_stand, present}
+use Rattle.parquet_pages.specs.Pages.{Leaf, highest, has_levels, joined, no_cells}
 use Rattle.page_cells.specs.Outcome.{in_page}
 use Rattle.page_cells.specs.Texts.{is_proper, is_too_long}
 use Rattle.page_cells.specs.Plain.{plain_at}

@@ -1,6 +1,5 @@
 -- What the types of the code stand for.
 use Rattle.std.specs.Prelude.{◌≡◌, ℕ, [], length, Ok}
-use Rattle.lake_bytes.specs.Hybrid.{values_of}
 use Rattle.shred.specs.Columns.{Column}
 use Rattle.parquet_pages.specs.Headers.{Header, Content, data_page, dictionary_page, other_page}
 use Rattle.parquet_pages.specs.Pages as pages
@@ -28,7 +27,7 @@ leaf_view l = record { leaf_type = l.leaf_type; nullable = l.nullable.now }
 pub record IsCells (l : pages.Leaf) (page : Page) (c : Column) : Type 0 where
   pub counted : page.num_values ≡ length c.levels
   pub present_each : page.present ≡ present (highest l) c.levels
-  pub levels : values_of page.levels.items ≡ c.levels
+  pub levels : page.levels ≡ c.levels
   pub values : plain_at l.leaf_type (present (highest l) c.levels) page.values.now ≡ Ok (c.values, [])
 
 -- The page is this part of the column, and ends at this place.

@@ -20,7 +20,8 @@ use std::alloc::Global;
 /// without values no page is read.
 ///
 /// P6 where the first page begins before byte 4; then page by page as [`read_page`] has it. The time is linear in the
-/// bytes of the pages, however many values they claim; the memory in the runs of one page's levels.
+/// bytes of the pages, however many values they claim; nothing is kept of their levels and values, and memory is taken
+/// for one page's header at a time.
 pub fn test_chunk(
     alloc: Global,
     leaf: &Leaf,

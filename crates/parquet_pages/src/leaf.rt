@@ -1,12 +1,9 @@
 //! A leaf of a table, as a file keeps it.
 
 ghost use Rattle.std.specs.Prelude.{◌≡◌};
-ghost use Rattle.std.specs.List.{list_all};
-ghost use Rattle.lake_bytes.specs.Hybrid.{values_of};
-ghost use Rattle.parquet_pages.specs.Pages.{highest, may_stand};
+ghost use Rattle.parquet_pages.specs.Pages.{highest};
 ghost use Rattle.parquet_pages.specs.Views.{leaf_view};
 
-use lake_bytes::Run;
 use page_cells::LeafType;
 
 /// A leaf of a table, and which nodes on the way to it may be null in a file.
@@ -25,23 +22,4 @@ impl Leaf<'_> {
     {
         self.nullable.len() as u64
     }
-
-    /// Whether a cell of this level may stand: a null where the table has one, or a value.
-    fn may_stand(&self, level: u64) -> bool
-        ensures { result ≡ may_stand (leaf_view self.now).nullable level }
-    {
-        match self.nullable.get(level as usize) {
-            Some(nullable) => *nullable,
-            None => true,
-        }
-    }
-}
-
-/// Whether nulls stand only where the table has them.
-pub(crate) fn nulls_may_stand(leaf: &Leaf, levels: &[Run]) -> bool
-    ensures { result ≡ list_all (may_stand (leaf_view leaf.now).nullable) (values_of levels.now) }
-{
-    levels
-        .iter()
-        .all(|run| run.count == 0 || leaf.may_stand(run.value))
 }

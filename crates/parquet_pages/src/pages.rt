@@ -2,30 +2,29 @@
 
 ghost use Rattle.std.specs.Prelude.{◌≡◌, ◌≤◌, ◌++◌, length, replicate, Ok, IfOk, OnOk};
 ghost use Rattle.lake_bytes.specs.Reading.{IsReading};
-ghost use Rattle.lake_bytes.specs.declared.fault.ByteFault.{ByteFault};
 ghost use Rattle.shred.specs.Columns as columns;
 ghost use Rattle.lake_bytes.specs.Hybrid.{values_of};
-ghost use Rattle.std.specs.List.{list_any};
+ghost use Rattle.std.specs.List.{list_all, list_any};
 ghost use Rattle.parquet_pages.specs.Internal.{HasCells};
 ghost use Rattle.parquet_pages.specs.Outcome.{GivesWhere};
 ghost use Rattle.parquet_pages.specs.Pages.{IsPage, Suits};
 ghost use Rattle.parquet_pages.specs.Reading.{DataPage, data_page_in, num_values_in, encoding_fault, unless_fault, body_at, column_in, page_at, tested};
 ghost use Rattle.page_cells.specs.Texts.{is_too_long};
-ghost use Rattle.page_cells.specs.Outcome.{in_page};
+ghost use Rattle.page_cells.specs.Levels.{may_stand};
 ghost use Rattle.parquet_pages.specs.Views.{header_view, leaf_view, IsCells, IsPageOf};
 
 use crate::enums::{PLAIN, RLE};
 use crate::header::{PageContent, PageHeader, read_header};
-use crate::leaf::{Leaf, nulls_may_stand};
-use lake_bytes::{Cursor, HybridError, Run};
-use page_cells::{are_in_range, are_proper, bad_bytes, pass_values, present, read_levels};
+use crate::leaf::Leaf;
+use lake_bytes::{Cursor, HybridReader, Run};
+use page_cells::{are_in_range, are_proper, bad_bytes, pass_values, test_levels};
 use parquet_footer::{FileError, FileFault};
 use std::alloc::{AllocError, Global};
 
-/// What a data page holds of its column: the levels as runs, and the bytes of its values, which lie in the file's.
+/// What a data page holds of its column: a reader of its levels and the bytes of its values, which lie in the file's.
 #[derive(Drop)]
 pub struct Page<'a> {
-    levels: Vec<Run>,
+    levels: HybridReader<'a>,
     values: &'a [u8],
     num_values: u64,
     present: u64,
@@ -40,13 +39,6 @@ impl<'a> Page<'a> {
         self.num_values
     }
 
-    /// Its levels, as runs.
-    pub fn levels(&self) -> &[Run]
-        ensures { result.now ≡ self.now.levels.items }
-    {
-        &self.levels
-    }
-
     /// The bytes of its values.
     pub(crate) fn values(&self) -> &'a [u8]
         ensures { result.now ≡ self.now.values.now }
@@ -54,8 +46,8 @@ impl<'a> Page<'a> {
         self.values
     }
 
-    /// Its levels, as runs, without the rest.
-    pub(crate) fn into_levels(self) -> Vec<Run>
+    /// Its levels, without the rest.
+    pub fn into_levels(self) -> HybridReader<'a>
         ensures { result ≡ self.entry.levels }
     {
         self.levels
@@ -78,7 +70,9 @@ impl<'a> Page<'a> {
 /// a text or bytes of over 1 MiB; P7 for bytes behind its values or more values than are left; P10 for a text that
 /// isn't UTF-8; P8 for a null where the table has none and a number out of its type's range.
 ///
-/// The time is linear in its bytes, however many values its levels claim, the memory in the runs of its levels.
+/// The time is linear in its bytes, however many values its levels claim: equal levels are looked at once for each run,
+/// and packed ones one by one. Of its levels and values nothing is kept but where they stand, and memory is taken for
+/// the header alone.
 pub fn read_page<'a>(
     alloc: Global,
     leaf: &Leaf,
@@ -115,7 +109,7 @@ fn page_from<'a>(
     let (header, behind) = read_header(alloc, page, leaf.highest() > 0)?;
     let (count, body) = body_of(&header, behind)?;
     let next = bytes.len() - behind.len() + body.len();
-    page_in(alloc, leaf, left, count, body, next)
+    page_in(leaf, left, count, body, next)
 }
 
 /// How many values a page with this header has, and its body, in front of the bytes.
@@ -172,7 +166,6 @@ fn test_encodings(header: &PageHeader) -> Result<(), FileFault>
 
 /// The page of this body.
 fn page_in<'a>(
-    alloc: Global,
     leaf: &Leaf,
     left: u64,
     count: u64,
@@ -184,13 +177,12 @@ fn page_in<'a>(
     ensures next { IfOk result (λ page. page.next ≡ next) }
 {
     let mut cursor = Cursor::new(body);
-    let levels = match read_levels(alloc, &mut cursor, leaf.highest(), count) {
-        Ok(levels) => levels,
-        Err(error) => return Err(bad_levels(error)),
+    let (levels, told) = match test_levels(&mut cursor, leaf.nullable, count) {
+        Ok(tested) => tested,
+        Err(fault) => return Err(bad_bytes(fault)),
     };
     let values = cursor.left();
-    let present = present(&levels, leaf.highest());
-    let has_long = match pass_values(&mut cursor, leaf.leaf_type, present) {
+    let has_long = match pass_values(&mut cursor, leaf.leaf_type, told.present) {
         Ok(has_long) => has_long,
         Err(fault) => return Err(bad_bytes(fault)),
     };
@@ -198,23 +190,26 @@ fn page_in<'a>(
         levels,
         values,
         num_values: count,
-        present,
+        present: told.present,
         next,
     };
-    test_cells(leaf, &page, left, has_long, cursor.left())?;
+    let nulls = told.nulls_may_stand;
+    test_cells(leaf, &page, nulls, left, has_long, cursor.left())?;
     Ok(page)
 }
 
-/// Tests what a page holds, behind which these bytes are left of its body; `has_long` says whether it has a text or
-/// bytes of over 1 MiB.
+/// Tests what a page holds, behind which these bytes are left of its body; `nulls_may_stand` says whether its nulls
+/// stand only where the table has them, and `has_long` whether it has a text or bytes of over 1 MiB.
 fn test_cells(
     leaf: &Leaf,
     page: &Page,
+    nulls_may_stand: bool,
     left: u64,
     has_long: bool,
     behind: &[u8],
 ) -> Result<(), FileFault>
     ensures { (c : columns.Column) → HasCells (leaf_view leaf.now) page.now c behind.now
+        → nulls_may_stand ≡ list_all (may_stand (leaf_view leaf.now).nullable) c.levels
         → has_long ≡ list_any is_too_long c.values
         → IsReading (λ x. c) result (tested (leaf_view leaf.now) left c behind.now) }
 {
@@ -227,23 +222,10 @@ fn test_cells(
     if !are_proper(leaf.leaf_type, page.present, page.values) {
         return Err(FileFault::NotUtf8);
     }
-    if !nulls_may_stand(leaf, &page.levels)
-        || !are_in_range(leaf.leaf_type, page.present, page.values)
-    {
+    if !nulls_may_stand || !are_in_range(leaf.leaf_type, page.present, page.values) {
         return Err(FileFault::SchemaMismatch);
     }
     Ok(())
-}
-
-/// A fault of a page's levels.
-fn bad_levels(error: HybridError) -> FileError
-    ensures memory { error ≡ HybridError.Memory → result ≡ FileError.Memory }
-    ensures fault { (fault : ByteFault) → error ≡ HybridError.Fault fault → result ≡ FileError.Fault (in_page fault) }
-{
-    match error {
-        HybridError::Memory => FileError::Memory,
-        HybridError::Fault(fault) => bad_bytes(fault),
-    }
 }
 
 /// Adds the levels of runs.

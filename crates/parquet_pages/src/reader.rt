@@ -1,7 +1,7 @@
-//! A column chunk read page by page: the cells of one page at a time are held, and taken from its front.
+//! A column chunk read page by page: its cells are taken from the front of one page at a time, and read from the page's
+//! bytes as they are taken.
 
-ghost use Rattle.std.specs.Prelude.{◌≡◌, ℕ, ◌-◌, ◌≤◌, length, [], take, drop, Ok, Err, IfOk, OnOk, OnErr};
-ghost use Rattle.lake_bytes.specs.Hybrid.{values_of};
+ghost use Rattle.std.specs.Prelude.{◌≡◌, ℕ, ◌-◌, ◌≤◌, length, [], Ok, Err, IfOk, IsOk, OnErr};
 ghost use Rattle.shred.specs.Columns as columns;
 ghost use Rattle.shred.specs.Parts.{cut_off};
 ghost use Rattle.parquet_footer.specs.declared.fault.FileFault.{FileFault};
@@ -17,16 +17,16 @@ ghost use Rattle.parquet_pages.specs.Views.{leaf_view};
 use crate::chunk::{first_place, mark_in_chunk};
 use crate::leaf::Leaf;
 use crate::pages::{add_levels, read_page};
-use lake_bytes::Run;
+use lake_bytes::HybridReader;
 use page_cells::{PlainReader, cut_runs, present};
 use parquet_footer::{FileError, FileFault};
 use row_core::Value;
 use shred::{Column, ColumnPart};
-use std::alloc::{AllocError, Global};
-use std::collections::VecDeque;
+use std::alloc::Global;
 
 /// What is left of a column chunk (Apache Parquet, "Column Chunks"): the cells of the page at hand that weren't taken,
-/// and the pages behind it, which weren't looked at. It holds the levels of one page, as runs.
+/// and the pages behind it, which weren't looked at. It keeps no cell: levels and values are read from the file's bytes
+/// as they are taken.
 #[derive(Drop)]
 pub struct ColumnReader<'a> {
     leaf: Leaf<'a>,
@@ -37,7 +37,7 @@ pub struct ColumnReader<'a> {
     /// How many values it and those behind it have.
     left: u64,
     /// The levels of the page at hand that weren't taken.
-    levels: VecDeque<Run>,
+    levels: HybridReader<'a>,
     /// How many they are.
     count: u64,
     /// Its values that weren't taken.
@@ -50,7 +50,6 @@ impl<'a> ColumnReader<'a> {
     /// byte 4, is the chunk's first one.
     #[tactic(auto, unfolding(crate::specs::Reading::chunk_at))]
     pub fn open(
-        alloc: Global,
         leaf: Leaf<'a>,
         bytes: &'a [u8],
         stated: i64,
@@ -74,7 +73,7 @@ impl<'a> ColumnReader<'a> {
             bytes,
             place,
             left: num_values,
-            levels: VecDeque::new(alloc),
+            levels: HybridReader::equal(0, 0),
             count: 0,
             values: PlainReader::none(leaf.leaf_type),
         })
@@ -83,8 +82,9 @@ impl<'a> ColumnReader<'a> {
     /// Tests a chunk as [`test_chunk`](crate::test_chunk) does, with its faults, and gives the reader of what stands
     /// behind so many of its cells.
     ///
-    /// The time is linear in the bytes of the pages, and in the runs of levels, texts and bytes of the page in which
-    /// those cells end, which is read again.
+    /// The time is linear in the bytes of the pages, of which the one in which those cells end is read again: of the
+    /// cells before them the runs of levels, the packed levels, and the texts and bytes a further time. Memory is taken
+    /// for one page's header at a time.
     pub fn tested(
         alloc: Global,
         leaf: Leaf<'a>,
@@ -104,7 +104,7 @@ impl<'a> ColumnReader<'a> {
             bytes,
             place: mark.place,
             left: mark.left,
-            levels: VecDeque::new(alloc),
+            levels: HybridReader::equal(0, 0),
             count: 0,
             values: PlainReader::none(leaf.leaf_type),
         };
@@ -115,7 +115,8 @@ impl<'a> ColumnReader<'a> {
 
     /// Passes so many cells, or all that are left. Of what is left where memory runs out nothing is said.
     ///
-    /// The time is linear in the bytes of the pages that they stand in.
+    /// The time is linear in the bytes of the pages that they stand in, however many they are. None of them is made;
+    /// memory is taken for one page's header at a time.
     pub fn pass(&mut self, alloc: Global, count: u64) -> Result<(), FileError>
         // The column behind those cells is left, unless memory runs out.
         ensures passed { (l : pages.Leaf) (c : columns.Column) → AreLeft l self.old c
@@ -128,9 +129,20 @@ impl<'a> ColumnReader<'a> {
                 return Ok(());
             }
             let cells = wanted.min(at_hand);
-            let _part = self.take(alloc, cells, cells, 0)?;
+            self.pass_at_hand(cells)?;
             wanted -= cells;
         }
+        Ok(())
+    }
+
+    /// Passes so many cells of the page at hand. Where there are fewer, nothing is said. It takes no memory.
+    fn pass_at_hand(&mut self, cells: u64) -> Result<(), FileFault>
+        ensures passed { (l : pages.Leaf) (c : columns.Column) → AreLeft l self.old c → cells ≤ at_hand self.old
+            → IsOk result × AreLeft l self.new (cut_off cells (highest l) c) }
+    {
+        self.count = self.count.saturating_sub(cells);
+        let present = self.levels.pass(cells, self.leaf.highest());
+        self.values.pass(present)?;
         Ok(())
     }
 
@@ -164,7 +176,7 @@ impl<'a> ColumnReader<'a> {
         self.place = page.next();
         self.count = page.num_values();
         self.values = PlainReader::new(self.leaf.leaf_type, page.values());
-        self.levels = VecDeque::from_vec(page.into_levels());
+        self.levels = page.into_levels();
         Ok(())
     }
 
@@ -172,8 +184,9 @@ impl<'a> ColumnReader<'a> {
     /// from the one of the number `first` on. Where there are fewer at hand, and of what is left where memory runs out,
     /// nothing is said.
     ///
-    /// The time is linear in the runs of these levels, in the cells that are kept, and in the texts and bytes among the
-    /// cells that are taken; other values that aren't kept cost nothing.
+    /// The time is linear in the runs of these levels and in those of them that are packed, in the cells that are kept,
+    /// and in the texts and bytes among the cells that are taken; other values that aren't kept cost nothing. The
+    /// memory is linear in the runs that are given, each as long as it can be, and in the cells that are kept.
     pub fn take(
         &mut self,
         alloc: Global,
@@ -186,7 +199,7 @@ impl<'a> ColumnReader<'a> {
             → FindsWhere (λ part. IsPartOf l first most part (cut_cells l 0 count c)
             × AreLeft l self.new (cut_off count (highest l) c)) result }
     {
-        let levels = take_runs(alloc, &mut self.levels, count)?;
+        let levels = self.levels.take(alloc, count)?;
         let before = cut_runs(alloc, &levels, 0, first)?;
         let kept = cut_runs(alloc, &levels, first, most)?;
         let highest = self.leaf.highest();
@@ -215,31 +228,4 @@ fn no_cells(alloc: Global) -> Column<Value>
         levels: Vec::new(alloc),
         values: Vec::new(alloc),
     }
-}
-
-/// Takes so many levels from the front of runs, or all that there are; the last run may be taken in part.
-fn take_runs(alloc: Global, runs: &mut VecDeque<Run>, count: u64) -> Result<Vec<Run>, AllocError>
-    ensures taken { IfOk result (λ taken. values_of taken.items ≡ take count (values_of runs.old.items)) }
-    ensures left { OnOk result (values_of runs.new.items ≡ drop count (values_of runs.old.items)) }
-{
-    let mut taken = Vec::new(alloc);
-    let mut wanted = count;
-    while wanted > 0 {
-        let Some(run) = runs.pop_front() else {
-            return Ok(taken);
-        };
-        let kept = wanted.min(run.count);
-        taken.push(Run {
-            value: run.value,
-            count: kept,
-        })?;
-        if kept < run.count {
-            runs.push_front(Run {
-                value: run.value,
-                count: run.count - kept,
-            })?;
-        }
-        wanted -= kept;
-    }
-    Ok(taken)
 }

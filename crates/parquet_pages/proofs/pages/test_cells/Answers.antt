@@ -1,11 +1,10 @@
-use Rattle.std.proofs.Common.{◌≡◌, ◌≤◌, ◌||◌, not, eqb, ltb, ℕ, Bool, List, length, true, false, refl, sym, ap, ◌∙◌, arith}
+use Rattle.std.proofs.Common.{◌≡◌, ◌≤◌, ◌||◌, not, eqb, ltb, ℕ, Bool, length, true, false, refl, sym, ap, ◌∙◌, arith}
 use Rattle.std.specs.List.{list_all}
 use Rattle.std.proofs.lemmas.Bool.{lt-ltb, le-ltb}
-use Rattle.lake_bytes.specs.Hybrid.{values_of}
-use Rattle.lake_bytes.specs.declared.run.Run.{Run}
 use Rattle.row_core.specs.Conforms.{is_leaf_value}
 use Rattle.shred.specs.Columns.{Column}
-use Rattle.parquet_pages.specs.Pages.{Leaf, may_stand}
+use Rattle.parquet_pages.specs.Pages.{Leaf}
+use Rattle.page_cells.specs.Levels.{may_stand}
 use Rattle.page_cells.specs.Plain.{plain_at}
 use Rattle.parquet_pages.specs.Reading.{has_mismatch}
 use Rattle.page_cells.specs.Types.{primitive_of}
@@ -34,11 +33,11 @@ no_mismatch : (l : Leaf) (c : Column) → list_all (may_stand l.nullable) c.leve
 no_mismatch l c h k = rw (h, k) refl
 
 pub returns-then-has_long : goal.returns-then-has_long
-returns-then-has_long c col cells long =
+returns-then-has_long c col cells told long =
     tested_long (leaf_view c.args.leaf.now) c.args.left col c.args.behind.now (sym c.if-has_long.true ∙ long)
 
 pub returns-then-not-is_empty : goal.returns-then-not-is_empty
-returns-then-not-is_empty c col cells long =
+returns-then-not-is_empty c col cells told long =
     let over : (not (eqb (length c.args.behind.now) 0) || ltb c.args.left (length col.levels)) ≡ true =
     elim c.then-not-is_empty.branch [
       | then-not-is_empty-via-then-not-is_empty w ↦
@@ -51,7 +50,7 @@ returns-then-not-is_empty c col cells long =
     tested_count (leaf_view c.args.leaf.now) c.args.left col c.args.behind.now (sym c.if-has_long.false ∙ long) over
 
 pub returns-then-not-are_proper : goal.returns-then-not-are_proper
-returns-then-not-are_proper c col cells long =
+returns-then-not-are_proper c col cells told long =
     let l = leaf_view c.args.leaf.now in
     let there = ap (λ (n : ℕ). plain_at l.leaf_type n c.args.page.now.values.now) cells.present_each ∙ cells.values in
     let fits = whole (eqb (length c.args.behind.now) 0) c.args.left (length col.levels)
@@ -60,19 +59,16 @@ returns-then-not-are_proper c col cells long =
     (sym (c.are_proper.ensures col.values c.args.behind.now there) ∙ c.if-not-are_proper.true)
 
 pub returns-then-not-nulls_may_stand : goal.returns-then-not-nulls_may_stand
-returns-then-not-nulls_may_stand c col cells long =
+returns-then-not-nulls_may_stand c col cells told long =
     let l = leaf_view c.args.leaf.now in
     let there = ap (λ (n : ℕ). plain_at l.leaf_type n c.args.page.now.values.now) cells.present_each ∙ cells.values in
     let fits = whole (eqb (length c.args.behind.now) 0) c.args.left (length col.levels)
     (sym c.is_empty.ensures ∙ c.if-not-is_empty.false) (omega (arith, cells.counted, c.if-page-left.false)) in
     let proper = sym (c.are_proper.ensures col.values c.args.behind.now there) ∙ c.if-not-are_proper.false in
-    let nulls : c.nulls_may_stand.result ≡ list_all (may_stand l.nullable) col.levels = c.nulls_may_stand.ensures
-    ∙ ap (λ (rs : List Run). list_all (may_stand l.nullable) (values_of rs)) c.deref.ensures.value
-    ∙ ap (list_all (may_stand l.nullable)) cells.levels in
     let wrong : has_mismatch l col ≡ true =
     elim c.then-not-nulls_may_stand.branch [
       | then-not-nulls_may_stand-via-then-not-nulls_may_stand w ↦ mismatch_levels l col
-          (sym nulls ∙ w.if-not-nulls_may_stand.true)
+          (sym told ∙ w.if-not-nulls_may_stand.true)
       | then-not-nulls_may_stand-via-else-not-nulls_may_stand+then-not-are_in_range w ↦
           mismatch_values l col (sym (w.are_in_range.ensures col.values c.args.behind.now there
           (sym long ∙ c.if-has_long.false)) ∙ w.if-not-are_in_range.true)
@@ -80,16 +76,13 @@ returns-then-not-nulls_may_stand c col cells long =
     tested_mismatch l c.args.left col c.args.behind.now (sym c.if-has_long.false ∙ long) fits proper wrong
 
 pub returns : goal.returns
-returns c col cells long =
+returns c col cells told long =
     let l = leaf_view c.args.leaf.now in
     let there = ap (λ (n : ℕ). plain_at l.leaf_type n c.args.page.now.values.now) cells.present_each ∙ cells.values in
     let fits = whole (eqb (length c.args.behind.now) 0) c.args.left (length col.levels)
     (sym c.is_empty.ensures ∙ c.if-not-is_empty.false) (omega (arith, cells.counted, c.if-page-left.false)) in
     let proper = sym (c.are_proper.ensures col.values c.args.behind.now there) ∙ c.if-not-are_proper.false in
-    let nulls : c.nulls_may_stand.result ≡ list_all (may_stand l.nullable) col.levels = c.nulls_may_stand.ensures
-    ∙ ap (λ (rs : List Run). list_all (may_stand l.nullable) (values_of rs)) c.deref.ensures.value
-    ∙ ap (list_all (may_stand l.nullable)) cells.levels in
     let in_range = sym (c.are_in_range.ensures col.values c.args.behind.now there (sym long ∙ c.if-has_long.false))
     ∙ c.if-not-are_in_range.false in
     tested_fine l c.args.left col c.args.behind.now (sym c.if-has_long.false ∙ long) fits proper
-    (no_mismatch l col (sym nulls ∙ c.if-not-nulls_may_stand.false) in_range)
+    (no_mismatch l col (sym told ∙ c.if-not-nulls_may_stand.false) in_range)

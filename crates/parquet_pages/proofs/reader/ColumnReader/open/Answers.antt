@@ -17,6 +17,6 @@ returns c =
     ] in
     record {
       left = λ column h.
-          opened (leaf_view c.args.leaf) _ c.args.stated column refl refl c.new.ensures.items c.none.ensures begins h;
+          opened (leaf_view c.args.leaf) _ c.args.stated column refl refl c.equal.ensures c.none.ensures begins h;
       refused = λ fault h. absurd cc;
     }

@@ -1,10 +1,6 @@
 use Rattle.std.proofs.Common.{◌-◌, ◌≤◌, arith}
 use Rattle.std.proofs.lemmas.Result.{err_from_is_err_and}
-use Rattle.shred.specs.Parts.{cut_off}
-use Rattle.parquet_pages.specs.Held.{AreLeft}
-use Rattle.parquet_pages.specs.Pages.{highest}
-use Rattle.parquet_pages.specs.Parts.{IsPartOf, cut_cells}
-use Rattle.parquet_pages.proofs.PassedCells.{fill_fails, finds_fails, pass_begun, pass_done, pass_ends, pass_goes_on}
+use Rattle.parquet_pages.proofs.PassedCells.{fill_fails, pass_begun, pass_done, pass_ends, pass_goes_on}
 use Rattle.parquet_pages.proofs.reader.ColumnReader.pass.Goals as goal
 
 pub loop-wanted-init : goal.loop-wanted-init
@@ -29,19 +25,15 @@ returns-then-at_hand-eq0 c = record {
       (filled.none c.if-at_hand-eq0.true);
 }
 
-pub returns-in_err-_part : goal.returns-in_err-_part
-returns-in_err-_part c = record {
+pub returns-in_err-pass_at_hand : goal.returns-in_err-pass_at_hand
+returns-in_err-pass_at_hand c = record {
   passed = λ leaf column left.
       let known = c.loop-wanted.invariant leaf column left in
       let filled = c.in_ok-at_hand.ensures.filled leaf _ known.left in
       let less : c.min-cells.result ≤ c.fill.new.self.count = omega (arith, c.min-cells.ensures, filled.counted) in
-      let p = err_from_is_err_and c.from_residual-in_err-_part.result c.from_residual-in_err-_part.ensures.1 in
-      let cells = c.min-cells.result in
-      let rest = cut_off (c.args.count - c.loop-wanted.wanted) (highest leaf) column in
-      let told = finds_fails (λ part. IsPartOf leaf cells 0 part (cut_cells leaf 0 cells rest)
-      × AreLeft leaf c.take.new.self (cut_off cells (highest leaf) rest)) c.in_err-_part.field-0.0
-      (c.in_err-_part.ensures.taken leaf rest filled.left less) in
-      rw (p.1, p.2, told) tt;
+      let found = c.in_err-pass_at_hand.ensures.passed leaf _ filled.left less in
+      let never = found.0 in
+      absurd cc;
 }
 
 pub loop-wanted-preserved : goal.loop-wanted-preserved
@@ -50,10 +42,10 @@ loop-wanted-preserved c leaf column left =
     let filled = c.in_ok-at_hand.ensures.filled leaf _ known.left in
     let cells = c.min-cells.result in
     let less : c.min-cells.result ≤ c.fill.new.self.count = omega (arith, c.min-cells.ensures, filled.counted) in
-    let taken = c.in_ok-_part.ensures.taken leaf _ filled.left less in
+    let passed = c.in_ok-pass_at_hand.ensures.passed leaf _ filled.left less in
     let few : cells ≤ c.loop-wanted.wanted = omega (arith, c.min-cells.ensures) in
-    pass_goes_on leaf c.take.new.self c.args.count c.loop-wanted.wanted cells (c.loop-wanted.wanted - cells) column
-    known.few few (omega arith) taken.1
+    pass_goes_on leaf c.pass_at_hand.new.self c.args.count c.loop-wanted.wanted cells (c.loop-wanted.wanted - cells) column
+    known.few few (omega arith) passed.1
 
 pub returns : goal.returns
 returns c = record {

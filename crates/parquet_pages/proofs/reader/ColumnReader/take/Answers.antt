@@ -1,19 +1,20 @@
-use Rattle.std.proofs.Common.{◌≡◌, ◌-◌, ◌≤◌, ◌<◌, ◌^◌, ◌++◌, ℕ, List, length, take, drop, sym, ap, subst, ◌∙◌, arith}
-use Rattle.std.proofs.lemmas.List.{length-drop, length-take}
+use Rattle.std.proofs.Common.{◌≡◌, ◌-◌, ◌≤◌, ◌<◌, ◌^◌, ◌++◌, ℕ, List, length, take, drop, refl, sym, ap, subst, ◌∙◌, arith}
+use Rattle.std.proofs.lemmas.List.{length-take}
 use Rattle.std.proofs.lemmas.Result.{err_from_is_err_and}
 use Rattle.lake_bytes.specs.Hybrid.{values_of}
 use Rattle.lake_bytes.specs.declared.run.Run.{Run}
 use Rattle.row_core.specs.Rows.{Value}
 use Rattle.row_core.specs.Views.{row_views}
 use Rattle.shred.specs.Columns.{Column}
-use Rattle.shred.specs.Parts.{cut_off, cut_out, part_of}
+use Rattle.shred.specs.Parts.{cut_out, part_of}
 use Rattle.row_core.specs.declared.value.Value as owned
 use Rattle.shred.specs.declared.columns.ColumnPart.{ColumnPart}
 use Rattle.page_cells.specs.Left.{HasValuesLeft}
-use Rattle.parquet_pages.specs.Pages.{highest, joined}
+use Rattle.parquet_pages.specs.Pages.{highest}
 use Rattle.page_cells.specs.Levels.{present}
 use Rattle.parquet_pages.specs.Parts.{IsPartOf}
-use Rattle.parquet_pages.proofs.HeldCells.{are_there, behind_each, behind_plain, cut_behind, cut_front, front_each, front_plain, kept_is, no_fault, present_is, same_part}
+use Rattle.parquet_pages.proofs.HeldCells.{are_there, cut_front, front_each, front_plain, kept_is, no_fault, present_is, same_part}
+use Rattle.parquet_pages.proofs.PassedCells.{left_behind}
 use Rattle.parquet_pages.proofs.reader.ColumnReader.take.Goals as goal
 
 -- ---- the values that are passed over are there
@@ -171,8 +172,6 @@ returns c = record {
       let within : count ≤ length here.levels = omega (arith, less, held.counted) in
       let cut : cut_out 0 count top col ≡ cut_out 0 count top here =
       ap (cut_out 0 count top) left.parts ∙ cut_front top count here left.behind within held.value_each in
-      let rest : cut_off count top col ≡ joined (cut_off count top here) left.behind =
-      ap (cut_off count top) left.parts ∙ cut_behind top count here left.behind within held.value_each in
       let kept_front = kept_is top count first most here c.add_levels.new.levels.items
       (row_views c.add.new.out.items) added values in
       let made : ColumnPart owned.Value =
@@ -189,22 +188,7 @@ returns c = record {
         plain = front_plain top count here held.plain;
       } in (
         subst (λ (front : Column). IsPartOf l first most made front) (sym cut) part,
-        record {
-          here = cut_off count top here;
-          behind = left.behind;
-          parts = rest;
-          held = record {
-            leaf = held.leaf;
-            counted = c.saturating_sub-self.ensures ∙ ap (λ (n : ℕ). n - count) held.counted
-                ∙ sym (length-drop count here.levels);
-            levels = c.in_ok-levels.ensures.left ∙ ap (drop count) held.levels;
-            values = behind;
-            value_each = behind_each top count here held.value_each;
-            plain = behind_plain top count here held.plain;
-          };
-          most = left.most;
-          few = left.few;
-          read = left.read;
-        },
+        left_behind l c.args.self.now _ count col left less refl refl refl refl c.saturating_sub-self.ensures
+            c.in_ok-levels.ensures.left behind,
       );
 }

@@ -18,7 +18,7 @@ returns-in_err-pass c =
     let a = subst (λ (z : ℤ). (x : Column) × (chunk_at l given z n ≡ Ok x) × IsMark l given n c.args.passed mark x)
     (to_z-of_z c.ranges.stated) c.in_ok-mark.ensures in
     let p = err_from_is_err_and c.from_residual-in_err-pass.result c.from_residual-in_err-pass.ensures.1 in
-    let left = marked_left l _ n c.args.passed mark a.0 a.2 refl refl c.new.ensures.items c.none.ensures refl refl in
+    let left = marked_left l _ n c.args.passed mark a.0 a.2 refl refl c.equal.ensures c.none.ensures refl refl in
     let rest = cut_off (n - mark.left) (highest l) a.0 in
     let told = finds_fails (λ (x : Unit {0}). AreLeft l c.pass.new.self
     (cut_off c.saturating_sub.result (highest l) rest)) c.in_err-pass.field-0.0
@@ -33,7 +33,7 @@ returns c =
     let mark = c.in_ok-mark.mark in
     let a = subst (λ (z : ℤ). (x : Column) × (chunk_at l given z n ≡ Ok x) × IsMark l given n c.args.passed mark x)
     (to_z-of_z c.ranges.stated) c.in_ok-mark.ensures in
-    let left = marked_left l _ n c.args.passed mark a.0 a.2 refl refl c.new.ensures.items c.none.ensures refl refl in
+    let left = marked_left l _ n c.args.passed mark a.0 a.2 refl refl c.equal.ensures c.none.ensures refl refl in
     let behind = c.in_ok-pass.ensures.passed l (cut_off (n - mark.left) (highest l) a.0) left in (
       a.0,
       a.1,
