@@ -15,5 +15,7 @@ pub mod CutOut
 pub mod RowParts
 pub mod Fronts
 pub mod LevelLoops
+pub mod Agreeing
+pub mod LeafLoops
 pub mod KeptRows
 pub mod Callers

@@ -28,7 +28,7 @@ absent_there level = rw (level_same level) refl
 -- ---- nulls are passed
 
 mutual
-  passed_complete : (s : Shape) (level : ℕ) (left : List Cell) → passed s level (absent_cells level (ways s) ++ left) ≡ Ok left
+  pub passed_complete : (s : Shape) (level : ℕ) (left : List Cell) → passed s level (absent_cells level (ways s) ++ left) ≡ Ok left
   passed_complete leaf level left = rw (absent_there level) refl
   passed_complete (struct fs) level left = passed_fields_complete fs 0 level left
 

@@ -6,4 +6,5 @@ pub mod Assembly
 pub mod Mismatch
 pub mod Parts
 pub mod Levels
+pub mod Neighbours
 pub mod Views

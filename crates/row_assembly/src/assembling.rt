@@ -113,7 +113,7 @@ pub(crate) fn highest_levels(alloc: Global, shape: &Shape) -> Result<Vec<u64>, A
 }
 
 /// How many steps are optional.
-fn highest(way: &[Step]) -> u64
+pub(crate) fn highest(way: &[Step]) -> u64
     ensures { result ≡ highest (way_view way.now) }
 {
     let mut level = 0;

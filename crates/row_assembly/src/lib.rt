@@ -6,6 +6,7 @@ mod assembling;
 mod cells;
 mod fault;
 mod laws;
+mod neighbours;
 mod parts;
 mod rows;
 

@@ -4,7 +4,7 @@ use Rattle.std.proofs.lemmas.List.{length-map}
 use Rattle.lake_bytes.specs.Hybrid.{values_of}
 use Rattle.shred.specs.Columns.{Cell}
 use Rattle.row_assembly.specs.Levels.{AreLong}
-use Rattle.row_assembly.specs.Views.{level_view, level_views}
+use Rattle.row_assembly.specs.Views.{level_view, level_views, reader_leaf, reader_leaves}
 use Rattle.row_assembly.proofs.LevelLoops.{begins_equal, equal_on, element_at, none_at, set_same}
 use Rattle.row_assembly.proofs.parts.equal_rows.Goals as goal
 
@@ -35,6 +35,7 @@ loop-reader-preserved c =
     let equal = equal_on css i c.loop-reader.rows y.count (level_view y) within at before.equal (begins_equal y.top y.level y.count (min c.loop-reader.rows y.count) (values_of y.rest.items) less) in
     record {
       same = set_same level_view now css i x y before.same below c.reader-item.is kept;
+      leaves = set_same reader_leaf now (reader_leaves c.args.readers.now) i x y before.leaves below c.reader-item.is (c.to_next_run.ensures.leaf ∙ ap reader_leaf (sym c.reader-item.is));
       less = omega (arith, is, before.less);
       equal = rw is equal;
       none = none_on c.loop-reader.rows y.count c.min-rows.result c.args.most css i (level_view y) is within at c.to_next_run.ensures.none before.none;

@@ -1,7 +1,7 @@
 use Rattle.std.proofs.Common.{◌≡◌, ◌<◌, ◌++◌, option_to_list, length, ap, sym, ◌∙◌, arith}
 use Rattle.std.proofs.lemmas.List.{length-map}
 use Rattle.row_assembly.specs.Assembly.{first_cell}
-use Rattle.row_assembly.specs.Views.{level_view, level_views}
+use Rattle.row_assembly.specs.Views.{level_view, level_views, reader_leaf, reader_leaves}
 use Rattle.row_assembly.proofs.RowLoops.{one_cell, no_cell}
 use Rattle.row_assembly.proofs.LevelLoops.{element_at, heads_on, set_same}
 use Rattle.row_assembly.proofs.parts.next_test.Goals as goal
@@ -25,4 +25,5 @@ loop-reader-preserved c =
     record {
       cells = heads_on css i (level_view x) c.loop-reader.cells.items c.match-cell.cells.items c.cell.result within at (c.cell.ensures.cell ∙ ap (λ r. first_cell (level_view r)) (sym c.reader-item.is)) put before.cells;
       same = set_same level_view now css i x y before.same below c.reader-item.is kept;
+      leaves = set_same reader_leaf now (reader_leaves c.args.readers.now) i x y before.leaves below c.reader-item.is (c.cell.ensures.leaf ∙ ap reader_leaf (sym c.reader-item.is));
     }

@@ -9,4 +9,7 @@ loop-left-preserved c =
     let step = c.min-step.result in
     let fewer : step ≤ now.count = omega (arith, c.min-step.ensures) in
     let less : step ≤ c.loop-left.left = omega (arith, c.min-step.ensures) in
-    passed_on now.top now.level now.count step c.loop-left.left (values_of now.rest.items) fewer less ∙ (ap (drop c.loop-left.left) c.to_next_run.ensures.same ∙ c.loop-left.invariant)
+    record {
+      left = passed_on now.top now.level now.count step c.loop-left.left (values_of now.rest.items) fewer less ∙ (ap (drop c.loop-left.left) c.to_next_run.ensures.same ∙ c.loop-left.invariant.left);
+      leaf = c.to_next_run.ensures.leaf ∙ c.loop-left.invariant.leaf;
+    }
