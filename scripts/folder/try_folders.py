@@ -13,6 +13,9 @@
   command that is run again, where something was left over: else that folder is the undisturbed one, which is checked once.
 - A table of 10,000 batches is checked, whole and without its last file.
 - Of a log with a gap, and of a folder that isn't there, each command has to tell its own refusal.
+- A commit of another tool adds files of odd paths: the rows before it are told, and then that the file is missing, as a
+  script is told it. What is no plain file lies under the name of a file that is to be made, and no name is free to write
+  it under: an append is refused and says why, and is done once that is taken away.
 - For a row of a long log behind a checkpoint few commits are opened, where those in front of it are few, and else each
   once.
 
@@ -32,6 +35,7 @@ import time
 from fronts import try_fronts
 from gaps import try_gaps
 from large import try_large
+from others import NAMES, PATHS, THINGS, try_others
 from races import run_creates, run_race
 from steps import STEPS, Prepared, Program, disturbances, leftovers, prepare, try_one
 from traced import CannotTrace, Disturbance
@@ -110,6 +114,7 @@ def main() -> int:
     seconds, found = try_large(program, BATCHES)
     faults += found + try_gaps(program) + try_fronts(program)
     races, told, found = try_races(program, asked.races, start + asked.seconds)
+    found += try_others(program)
     tell(counts, untried, races, told)
     print(f"a table of {BATCHES} batches was checked in {seconds:.1f} s")
     for fault in faults + found:
@@ -126,6 +131,7 @@ def tell(counts: Counter[str], untried: int, races: int, told: Counter[str]) -> 
     if untried:
         print(f"   {untried} not tried, for want of time")
     print(f"{CREATES} rounds of {CREATORS} creates at once; an append beside {LEFTOVERS} leftovers in each folder")
+    print(f"{len(PATHS)} odd paths; {len(THINGS)} things under a file's name; an append beside {NAMES} leftovers")
     print(f"{races} races: {told.total()} commands, {told['killed']} of them killed at some moment")
     for reply, count in sorted(told.items()):
         print(f"   {count:6} {reply}")

@@ -1,6 +1,7 @@
 pub mod Calls
 pub mod Copies
 pub mod Faults
+pub mod Gone
 pub mod Kinds
 pub mod Loads
 pub mod Names

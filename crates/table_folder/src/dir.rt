@@ -1,8 +1,10 @@
 //! A table's folder on a disk.
 ghost use Rattle.std.specs.Prelude.{◌≡◌, IfErr, IfOk, IsErr, Ok, string_bytes};
 ghost use Rattle.table_folder.specs.Calls.{CountsFailure, FailsAt};
+ghost use Rattle.table_folder.specs.Gone.{disk_tells_gone, tells_gone};
 
 use crate::disk::{DiskFault, file_bytes, leftover_names, make_file, make_folder, table_names};
+use crate::kind::{FileKind, is_of};
 use crate::naming::{LOG, is_table_name};
 use crate::{Folder, FolderFault, Reason};
 use std::alloc::AllocError;
@@ -14,7 +16,8 @@ use store_core::Put;
 ///
 /// It needs hard links: a file is written and synced as `.new-N`, and a link then gives it its name where that is
 /// absent. A create that fails removes its `.new-N`; a run that is killed may leave one, and each of those costs later
-/// creates a call. `leftovers` tells them. Removing them is safe only while no other process writes to the table.
+/// creates a call; where 100,000 of them lie in a folder each create there fails. `leftovers` tells them. Removing them
+/// is safe only while no other process writes to the table.
 ///
 /// Of the disk nothing is claimed: this folder is never steady.
 #[derive(Drop)]
@@ -66,8 +69,10 @@ impl<R: Files + AllocGlobal + Clone + Drop> DirFolder<R> {
 }
 
 impl<R: Files + AllocGlobal + Clone + Drop> Folder for DirFolder<R> {
-    ghost use Rattle.std.specs.Prelude.{[], All, IsTrue, map};
+    ghost use Rattle.std.specs.Prelude.{[], All, IsSome, IsTrue, false, map, true};
     ghost use Rattle.table_folder.specs.Calls.{IsFailed};
+    ghost use Rattle.table_folder.specs.Gone.{tells_gone};
+    ghost use Rattle.table_folder.specs.Kinds.{is_data};
     ghost use Rattle.table_folder.specs.Names.{is_leftover, is_table_name};
     ghost use Rattle.table_folder.specs.Orders.{IsInOrder-none};
 
@@ -95,12 +100,19 @@ impl<R: Files + AllocGlobal + Clone + Drop> Folder for DirFolder<R> {
         self.counted(names)
     }
 
-    /// Reads the file, of at most 1 GiB. A name that is no table file's is absent. A file of the log fails where it is
-    /// absent: only those that were listed are read, and a log without one of them would be another one.
-    fn read(&mut self, name: &str) -> Result<Option<Vec<u8>>, FolderFault> {
+    /// Reads the file, of at most 1 GiB. A name that is no table file's is absent. A commit or a checkpoint fails where
+    /// it is absent: only those that were listed are read, and a log without one of them would be another one. Each
+    /// other name may be one that a commit gives and nobody has.
+    fn read(&mut self, name: &str) -> Result<Option<Vec<u8>>, FolderFault>
+        ensures gone { tells_gone result ≡ true → is_data name.now ≡ false }
+        ensures stands { is_data name.now ≡ false → IfOk result IsSome }
+        ensures named { FailsAt name.now result }
+        ensures faults { CountsFailure result
+            (⟦<DirFolder<R> as Folder>⟧.fault_count self.old) (⟦<DirFolder<R> as Folder>⟧.fault_count self.new) }
+    {
         let refused = String::from_str(self.rt.alloc(), name)?;
         match self.find(name) {
-            Ok(None) if name.starts_with(LOG) => self.counted(Err(FolderFault::Failed {
+            Ok(None) if !is_of(FileKind::Data, name) => self.counted(Err(FolderFault::Failed {
                 name: refused,
                 reason: Reason::Gone,
             })),
@@ -109,7 +121,12 @@ impl<R: Files + AllocGlobal + Clone + Drop> Folder for DirFolder<R> {
     }
 
     /// Reads the file, of at most 1 GiB. A name that is no table file's is absent.
-    fn find(&mut self, name: &str) -> Result<Option<Vec<u8>>, FolderFault> {
+    fn find(&mut self, name: &str) -> Result<Option<Vec<u8>>, FolderFault>
+        ensures not_gone { tells_gone result ≡ false }
+        ensures named { FailsAt name.now result }
+        ensures faults { CountsFailure result
+            (⟦<DirFolder<R> as Folder>⟧.fault_count self.old) (⟦<DirFolder<R> as Folder>⟧.fault_count self.new) }
+    {
         if !is_table_name(name) {
             return Ok(None);
         }
@@ -119,7 +136,8 @@ impl<R: Files + AllocGlobal + Clone + Drop> Folder for DirFolder<R> {
         self.counted(found)
     }
 
-    /// Writes the file and syncs it and its folder. A name that is no table file's fails.
+    /// Writes the file and syncs it and its folder. A name that is no table file's fails, and so does one under which
+    /// something stands that is no plain file.
     fn create(&mut self, name: &str, bytes: Vec<u8>) -> Result<Put, FolderFault> {
         let refused = String::from_str(self.rt.alloc(), name)?;
         if !is_table_name(name) {
@@ -155,6 +173,7 @@ fn told_at<T>(name: String, told: Result<T, DiskFault>) -> Result<T, FolderFault
     ensures answer { IfOk told (λ value. result ≡ Ok value) }
     ensures failed { IfErr told (λ _. IsErr result) }
     ensures named { FailsAt (string_bytes name) result }
+    ensures gone { IfErr told (λ fault. tells_gone result ≡ disk_tells_gone fault) }
 {
     match told {
         Ok(value) => Ok(value),

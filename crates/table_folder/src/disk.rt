@@ -1,5 +1,6 @@
 //! The files of a table's folder on a disk. No contract says what a disk gives or takes.
-ghost use Rattle.std.specs.Prelude.{IfOk, IfSome, IsTrue, OnOk, All, map, string_bytes};
+ghost use Rattle.std.specs.Prelude.{◌≡◌, false, IfErr, IfOk, IfSome, IsTrue, OnOk, All, map, string_bytes};
+ghost use Rattle.table_folder.specs.Gone.{disk_tells_gone};
 ghost use Rattle.table_folder.specs.Names.{is_leftover, is_listed, is_table_name};
 
 use crate::gaps::has_gap;
@@ -16,6 +17,9 @@ use store_core::Put;
 /// The most bytes of a file that is read: 1 GiB.
 const MOST_BYTES: u64 = 1 << 30;
 
+/// How many names there are under which a file is written before it gets its own: `.new-0` and so on.
+const MOST_HIDDEN_NAMES: u64 = 100_000;
+
 /// How often a folder is listed again at most, where the commits that were listed have a gap.
 const MOST_REPEATS: u64 = 3;
 
@@ -27,6 +31,8 @@ pub(crate) enum DiskFault {
 }
 
 impl From<Error> for DiskFault {
+    ghost from_gives = { λ _ fault. disk_tells_gone fault ≡ false };
+
     fn from(error: Error) -> DiskFault {
         match error.kind() {
             ErrorKind::OutOfMemory => DiskFault::Memory,
@@ -36,6 +42,8 @@ impl From<Error> for DiskFault {
 }
 
 impl From<AllocError> for DiskFault {
+    ghost from_gives = { λ _ fault. disk_tells_gone fault ≡ false };
+
     fn from(_e: AllocError) -> DiskFault {
         DiskFault::Memory
     }
@@ -158,11 +166,7 @@ fn plain_name<R: Files + AllocGlobal>(
         Ok(metadata) if metadata.is_file() => Ok(Some(name)),
         Ok(_) => Ok(None),
         Err(e) if e.kind() == ErrorKind::NotFound => Ok(None),
-        Err(e) if e.kind() == ErrorKind::OutOfMemory => Err(FolderFault::Memory),
-        Err(e) => Err(FolderFault::Failed {
-            name,
-            reason: reason_of(e.kind()),
-        }),
+        Err(e) => Err(fault_at(rt.alloc(), name.as_str(), e)),
     }
 }
 
@@ -202,33 +206,31 @@ fn fault_for(alloc: Global, place: &str, reason: Reason) -> FolderFault {
 pub(crate) fn file_bytes<R: Files + AllocGlobal>(
     rt: &R,
     path: &str,
-) -> Result<Option<Vec<u8>>, DiskFault> {
+) -> Result<Option<Vec<u8>>, DiskFault>
+    ensures { IfErr result (λ fault. disk_tells_gone fault ≡ false) }
+{
     if path.as_bytes().contains(&0) {
         return Ok(None);
     }
     match fs::symlink_metadata(rt, path) {
         Ok(metadata) if !metadata.is_file() => return Ok(None),
-        Ok(metadata) if metadata.len() > MOST_BYTES => return Err(too_large()),
+        Ok(metadata) if metadata.len() > MOST_BYTES => {
+            return Err(DiskFault::Failed(Reason::TooLarge));
+        }
         Ok(_) => {}
-        Err(e) if is_absent(e.kind()) => return Ok(None),
-        Err(e) => return Err(DiskFault::from(e)),
+        // `InvalidInput` doesn't tell that nothing stands there: a disk may say it of what stands.
+        Err(e) => match e.kind() {
+            ErrorKind::NotFound | ErrorKind::InvalidFilename => return Ok(None),
+            _ => return Err(DiskFault::from(e)),
+        },
     }
     let mut bytes = Vec::new(rt.alloc());
     let mut file = File::open(rt, path)?.take(MOST_BYTES + 1);
     file.read_to_end(&mut bytes)?;
     if bytes.len() as u64 > MOST_BYTES {
-        return Err(too_large());
+        return Err(DiskFault::Failed(Reason::TooLarge));
     }
     Ok(Some(bytes))
-}
-
-/// Whether an error tells that nothing stands under a name. `InvalidInput` doesn't: a disk may say it of what stands.
-fn is_absent(kind: ErrorKind) -> bool {
-    matches!(kind, ErrorKind::NotFound | ErrorKind::InvalidFilename)
-}
-
-fn too_large() -> DiskFault {
-    DiskFault::Failed(Reason::TooLarge)
 }
 
 /// Makes a file with these bytes where the path is absent. They are written and synced under a name that begins with
@@ -240,7 +242,7 @@ pub(crate) fn make_file<R: Files + AllocGlobal>(
     path: &str,
     bytes: &[u8],
 ) -> Result<Put, DiskFault> {
-    if fs::exists(rt, path)? {
+    if is_taken(rt, path)? {
         return Ok(Put::Exists);
     }
     let hidden = write_hidden(rt, folder, bytes)?;
@@ -248,13 +250,27 @@ pub(crate) fn make_file<R: Files + AllocGlobal>(
     let removed = fs::remove_file(rt, hidden.as_str());
     match linked {
         Ok(()) => {}
-        Err(e) if e.kind() == ErrorKind::AlreadyExists => return Ok(Put::Exists),
+        Err(e) if e.kind() == ErrorKind::AlreadyExists => {
+            is_taken(rt, path)?;
+            return Ok(Put::Exists);
+        }
         Err(e) => return Err(link_fault(e)),
     }
     if removed.is_err() || sync_folder(rt, folder).is_err() {
         return Err(DiskFault::Failed(Reason::Other));
     }
     Ok(Put::Created)
+}
+
+/// Whether a plain file has the path of one that is to be made. Anything else there is a fault, since no file is found
+/// there and none can be made: a folder, a pipe, a socket, a device, and a link whatever it leads to.
+fn is_taken<R: Files + AllocGlobal>(rt: &R, path: &str) -> Result<bool, DiskFault> {
+    match fs::symlink_metadata(rt, path) {
+        Ok(metadata) if metadata.is_file() => Ok(true),
+        Ok(_) => Err(DiskFault::Failed(Reason::NotAFile)),
+        Err(e) if e.kind() == ErrorKind::NotFound => Ok(false),
+        Err(e) => Err(DiskFault::from(e)),
+    }
 }
 
 /// Why a file wasn't linked: a file system without hard links says so by `Unsupported` or `PermissionDenied`.
@@ -266,24 +282,28 @@ fn link_fault(error: Error) -> DiskFault {
 }
 
 /// Writes and syncs the bytes under a new name that begins with `.`, and tells its path: the first of `.new-0`,
-/// `.new-1`, .. that is free, which takes a call for each that killed runs have left. Where that fails, the file is
-/// removed.
-fn write_hidden<R: Files + AllocGlobal>(rt: &R, folder: &str, bytes: &[u8]) -> io::Result<String> {
-    for number in 0..u64::MAX {
+/// `.new-1`, .. that is free, which takes a call for each that killed runs have left; it is a fault where none is. Where
+/// writing fails, the file is removed.
+fn write_hidden<R: Files + AllocGlobal>(
+    rt: &R,
+    folder: &str,
+    bytes: &[u8],
+) -> Result<String, DiskFault> {
+    for number in 0..MOST_HIDDEN_NAMES {
         let path = format!(in rt.alloc(); "{folder}.new-{number}")?;
         match File::create_new(rt, path.as_str()) {
             Ok(mut file) => {
                 if let Err(e) = write_synced(&mut file, bytes) {
                     let _removed = fs::remove_file(rt, path.as_str());
-                    return Err(e);
+                    return Err(DiskFault::from(e));
                 }
                 return Ok(path);
             }
             Err(e) if e.kind() == ErrorKind::AlreadyExists => {}
-            Err(e) => return Err(e),
+            Err(e) => return Err(DiskFault::from(e)),
         }
     }
-    Err(Error::from(ErrorKind::AlreadyExists))
+    Err(DiskFault::Failed(Reason::TooManyLeftovers))
 }
 
 fn write_synced<W: Write + OpenFile>(file: &mut W, bytes: &[u8]) -> io::Result<()> {

@@ -1,4 +1,7 @@
 //! Why a call of a folder failed, for whoever is to put it right.
+ghost use Rattle.std.specs.Prelude.{◌≡◌, false};
+ghost use Rattle.table_folder.specs.Gone.{is_gone};
+
 use std::io::ErrorKind;
 
 /// Why a call of a folder failed, as far as the folder can tell. No contract says that it is right.
@@ -24,13 +27,18 @@ pub enum Reason {
     Gone,
     /// The file system has no hard links.
     NoLinks,
+    /// What stands under the name is no plain file: a folder, a pipe, a socket, a device or a link.
+    NotAFile,
+    /// All names under which a file may be written are taken by what killed runs have left.
+    TooManyLeftovers,
     /// None of these.
     Other,
 }
 
-/// What a disk's error tells. That a file is over 1 GiB or gone, a name isn't text, or links are lacking is told by the
-/// call.
-pub(crate) fn reason_of(kind: ErrorKind) -> Reason {
+/// What a disk's error tells by itself. The other reasons are told by the calls.
+pub(crate) fn reason_of(kind: ErrorKind) -> Reason
+    ensures { is_gone result ≡ false }
+{
     match kind {
         ErrorKind::NotFound => Reason::Missing,
         ErrorKind::NotADirectory => Reason::NotAFolder,
