@@ -6,7 +6,7 @@ import re
 
 from check import check_lines
 from log import Log
-from refusals import ENTRIES, explained
+from refusals import ENTRIES, explained, row_explained
 from script_lines import why_bad
 from table import NotModelled, json_value, unsupported_columns
 from world import World
@@ -266,7 +266,7 @@ class Folder:
             return ["status 1", f"refused F2 NotSaved {fault}", *explained("refused F2")]
         if not told or not told[-1].startswith("refused "):
             return [*told, "status 0", *rowless(line), *empty(command, line)]
-        hints = [*limit_passed(told[-1], line), *schema_flaw(told[-1], line)]
+        hints = [*row_explained(told[-1]), *limit_passed(told[-1], line), *schema_flaw(told[-1], line)]
         return [*told, "status 1", *explained(told[-1]), *hints]
 
     def elsewhere(self, command: Command, run: Run) -> list[str]:

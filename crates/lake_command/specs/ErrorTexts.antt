@@ -42,11 +42,18 @@ abbrev pub IsMeaningIn : Option (List ℕ) → List ℕ → Type 0
 IsMeaningIn None text = text ≡ []
 IsMeaningIn (Some code) text = IsMeaning code text
 
--- what more there is to say of a failure: what is wrong with a bad line, and what to do about a call of the folder
+-- that no memory was left
+abbrev pub memory_hint : List ℕ
+memory_hint = with_newline (codes "hint: memory ran out: make room for more and run the same command again")
+
+-- what more there is to say of a failure: what is wrong with a bad line, what to do about a call of the folder, and that
+-- no memory was left
 abbrev pub failure_hint : Failure → List ℕ
 failure_hint (BadLine number flaw) = with_newline (codes "hint: the line " ++ flaw_text flaw)
 failure_hint (Loading (loads.NotLoaded name reason)) = hint_of reason
 failure_hint (Saving (saves.NotSaved name reason)) = hint_of reason
+failure_hint (Loading loads.Memory) = memory_hint
+failure_hint (Saving saves.Memory) = memory_hint
 failure_hint failure = []
 
 -- of a failure: its line, what its code means, and what more there is to say

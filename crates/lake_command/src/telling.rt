@@ -197,8 +197,8 @@ pub(crate) fn explain_code<E: Write>(code: Option<&'static str>, err: &mut Error
     }
 }
 
-/// Says what is wrong with a bad line, and what to do about the folder, where it tells why it failed and there is
-/// something to do.
+/// Says what is wrong with a bad line, what to do about the folder, where it tells why it failed and there is something
+/// to do, and that no memory was left.
 fn hint<E: Write>(failure: &Failure, err: &mut ErrorOutput<E>)
     ensures { TellsText E.contents err.old err.new (failure_hint failure.now) }
 {
@@ -206,6 +206,9 @@ fn hint<E: Write>(failure: &Failure, err: &mut ErrorOutput<E>)
         Failure::BadLine(_number, flaw) => err.say(format_args!("hint: the line {flaw}")),
         Failure::Loading(LoadFault::NotLoaded { reason, .. }) => hint_reason(*reason, err),
         Failure::Saving(SaveFault::NotSaved { reason, .. }) => hint_reason(*reason, err),
+        Failure::Loading(LoadFault::Memory) | Failure::Saving(SaveFault::Memory) => {
+            err.say("hint: memory ran out: make room for more and run the same command again")
+        }
         _ => {}
     }
 }

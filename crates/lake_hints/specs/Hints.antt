@@ -13,7 +13,10 @@ use Rattle.lake_words.specs.Asked as words
 use Rattle.schema_tree.specs.declared.fault.SchemaFault.TheVariants as schemas
 use Rattle.table_folder.specs.declared.reason.Reason.{Reason}
 use Rattle.table_folder.specs.declared.reason.Reason.TheVariants as reasons
-use Rattle.lake_hints.specs.ErrorOutputs.{IsTextBehind}
+use Rattle.lake_hints.specs.ErrorOutputs.{AreInTurn, IsTextBehind}
+use Rattle.lake_hints.specs.Meanings.{IsMeaning}
+use Rattle.row_core.specs.declared.fault.RowFault.{RowFault}
+use Rattle.row_core.specs.declared.fault.RowFault.TheVariants as row_faults
 
 -- a hint is a line; where there is none nothing is told
 abbrev pub hint_line : Option (List ℕ) → List ℕ
@@ -32,6 +35,8 @@ remedy_in reasons.NotText = Some (codes "a name in the folder isn't UTF-8")
 remedy_in reasons.Taken = Some (codes "another process put it meanwhile: run the same command again")
 remedy_in reasons.Gone = Some (codes "it was there when the folder was listed: run the same command again")
 remedy_in reasons.NoLinks = Some (codes "the file system has no hard links, which writing a table needs")
+remedy_in reasons.NotAFile = Some (codes "what lies under this name is no plain file: move it away and run the same command again")
+remedy_in reasons.TooManyLeftovers = Some (codes "100,000 files that killed runs have left lie in its folder: remove .new-0, .new-1 and so on while no process writes to the table")
 remedy_in reasons.Other = None
 
 abbrev pub hint_of : Reason → List ℕ
@@ -74,9 +79,28 @@ abbrev pub IsSchemaHint : (is_no_json : Bool) → (schema : Option (List ℕ)) �
 IsSchemaHint true (Some schema) text = (flaw : Flaw) × (text ≡ with_newline (codes "hint: the schema's text " ++ flaw_text flaw))
 IsSchemaHint is_no_json schema text = text ≡ []
 
--- what more is told of a refusal of a job, which had so many rows: the limit that it passes, or a flaw of the schema's text
+-- the code of a row's fault
+abbrev pub row_code : RowFault → List ℕ
+row_code (row_faults.Missing path) = codes "V1"
+row_code (row_faults.WrongKind path) = codes "V2"
+row_code (row_faults.OutOfRange path) = codes "V3"
+row_code (row_faults.Unsupported path) = codes "V4"
+row_code (row_faults.Unknown name) = codes "V5"
+
+-- that of the row for which a reply refuses a batch
+abbrev pub row_code_in : LineReply → Option (List ℕ)
+row_code_in (SinkRefused (sink.BadRow index fault)) = Some (row_code fault)
+row_code_in reply = None
+
+-- what a row's fault means, where there is one
+abbrev pub IsRowMeaning : Option (List ℕ) → List ℕ → Type 0
+IsRowMeaning None text = text ≡ []
+IsRowMeaning (Some code) text = IsMeaning code text
+
+-- what more is told of a refusal of a job, which had so many rows: what the fault of a row means, the limit that it passes,
+-- or a flaw of the schema's text
 abbrev pub IsRefusalHint : LineReply → Work → (rows : ℕ) → List ℕ → Type 0
-IsRefusalHint reply work rows = IsTextBehind (hint_line (limit_in reply work rows)) (IsSchemaHint (is_no_json reply) (schema_in work))
+IsRefusalHint reply work rows = AreInTurn (IsRowMeaning (row_code_in reply)) (IsTextBehind (hint_line (limit_in reply work rows)) (IsSchemaHint (is_no_json reply) (schema_in work)))
 
 -- a script's line of that number is bad, and why
 abbrev pub IsBadLineHint : (number : ℕ) → List ℕ → Type 0

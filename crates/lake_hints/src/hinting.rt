@@ -2,15 +2,17 @@
 ghost use Rattle.std.specs.Prelude.{◌≡◌, option_map};
 ghost use Rattle.lake_words.specs.Asked.{work_view};
 ghost use Rattle.lake_hints.specs.ErrorOutputs.{TellsSome};
-ghost use Rattle.lake_hints.specs.Hints.{IsRefusalHint, IsSchemaHint, append_limit, count_limit, is_no_json, limit_in, schema_in};
+ghost use Rattle.lake_hints.specs.Hints.{IsRefusalHint, IsRowMeaning, IsSchemaHint, append_limit, count_limit, is_no_json, limit_in, row_code, row_code_in, schema_in};
 
 use crate::error_output::ErrorOutput;
+use crate::meanings::explain;
 use crate::remedies::hint;
 use batch_core::{GREATEST_NUMBER, MOST_ROWS, SinkFault};
 use commit_core::CreateFault;
 use json_lines::flaw_of;
 use lake_script::LineReply;
 use lake_words::Job;
+use row_core::RowFault;
 use schema_tree::SchemaFault;
 use std::alloc::Global;
 use std::io::Write;
@@ -19,8 +21,8 @@ use std::io::Write;
 const LAST_VERSION: &str =
     "the log has its last version, 999,999,999,999, and takes no further commit";
 
-/// Says more of a job's refusal than its line does: which limit the job passes, where it had so many rows, and where a
-/// schema's text stops being JSON.
+/// Says more of a job's refusal than its line does: what the fault of a row means, which limit the job passes, where it
+/// had so many rows, and where a schema's text stops being JSON.
 pub fn hint_refusal<E: Write>(
     alloc: Global,
     reply: &LineReply,
@@ -30,8 +32,40 @@ pub fn hint_refusal<E: Write>(
 )
     ensures { TellsSome E.contents (IsRefusalHint reply.now (work_view job.entry) rows) err.old err.new }
 {
+    explain_row(reply, err);
     hint(limit_passed(reply, job, rows), err);
     hint_schema(alloc, is_no_json(reply), schema_of(job), err)
+}
+
+/// Tells what the fault means of the row for which a reply refuses a batch.
+fn explain_row<E: Write>(reply: &LineReply, err: &mut ErrorOutput<E>)
+    ensures { TellsSome E.contents (IsRowMeaning (row_code_in reply.now)) err.old err.new }
+{
+    if let Some(code) = row_code_in(reply) {
+        explain(code, err);
+    }
+}
+
+/// The code of the fault of the row for which a reply refuses a batch.
+fn row_code_in(reply: &LineReply) -> Option<&'static str>
+    ensures { option_map (λ code. code.now) result ≡ row_code_in reply.now }
+{
+    match reply {
+        LineReply::SinkRefused(SinkFault::BadRow { fault, .. }) => Some(row_code(fault)),
+        _ => None,
+    }
+}
+
+fn row_code(fault: &RowFault) -> &'static str
+    ensures { result.now ≡ row_code fault.now }
+{
+    match fault {
+        RowFault::Missing { .. } => "V1",
+        RowFault::WrongKind { .. } => "V2",
+        RowFault::OutOfRange { .. } => "V3",
+        RowFault::Unsupported { .. } => "V4",
+        RowFault::Unknown { .. } => "V5",
+    }
 }
 
 /// Says where a schema's text stops being JSON, if it is none.

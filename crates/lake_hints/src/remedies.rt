@@ -42,6 +42,12 @@ fn remedy_of(reason: Reason) -> Option<&'static str>
         Reason::Taken => "another process put it meanwhile: run the same command again",
         Reason::Gone => "it was there when the folder was listed: run the same command again",
         Reason::NoLinks => "the file system has no hard links, which writing a table needs",
+        Reason::NotAFile => {
+            "what lies under this name is no plain file: move it away and run the same command again"
+        }
+        Reason::TooManyLeftovers => {
+            "100,000 files that killed runs have left lie in its folder: remove .new-0, .new-1 and so on while no process writes to the table"
+        }
         Reason::Other => return None,
     };
     Some(remedy)
