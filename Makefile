@@ -2,8 +2,8 @@ PREFIX ?= $(HOME)/.local
 COUNT ?= 10000
 SEEDS ?= 1
 
-.PHONY: believed bench demo documents documents-check edits example folder inspect install lake model names paths \
-	refusals samples schedules test times
+.PHONY: believed bench demo documents documents-check edits example folder inspect install lake model names pages \
+	paths refusals samples schedules test times
 
 # Runs the stored script of the program without a proof, and shows each line before its replies.
 demo:
@@ -27,6 +27,11 @@ inspect:
 # Times the built program on a few scripts and folders; run `make lake` before it.
 bench:
 	@scripts/program.sh bench
+
+# Has the built program read small data files that ask for much, and looks at its answers and at the most memory that it
+# held; with Python 3.11, without a package. Run `make lake` before it.
+pages:
+	@python3 scripts/bench/pages.py
 
 # Tries the built program on folders in a temporary directory, in at most two minutes: kills, calls that fail, and
 # processes that race; with Python 3.11, without a package. Run `make lake` before it.
