@@ -42,6 +42,7 @@ sys.path += [str(SCRIPTS / "folder"), str(SCRIPTS / "model")]
 
 from parquet_writer import DATA_PAGE, MAGIC, PLAIN, RLE, THRIFT_STRUCT, Leaf, column_chunk, file_meta_data
 from parquet_writer import i32_field, i64_field, leaves, list_field, struct_field, thrift_struct, varint
+from steps import is_built
 from traced import KILL_WITH_TRACER, SET_OPTIONS, CannotTrace, ask, begin, libc
 
 LAKE = SCRIPTS.parent / "crates" / "lake" / "out" / "lake"
@@ -286,8 +287,7 @@ def words() -> argparse.Namespace:
 
 def main() -> int:
     asked = words()
-    if not os.access(asked.program, os.X_OK):
-        print(f"there is no {asked.program}: run 'make lake' first", file=sys.stderr)
+    if not is_built(asked.program):
         return 2
     known = {shape.name: shape for shape in shapes()}
     unknown = [name for name in asked.shapes if name not in known]

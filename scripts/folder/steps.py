@@ -7,6 +7,7 @@ import os
 import re
 import shutil
 import subprocess
+import sys
 import tempfile
 
 from traced import Disturbance, Ended, run_disturbed
@@ -103,6 +104,14 @@ STEPS = (
     Step("tail", PAST, TAIL, told(ROWS[FIRST] + ROWS[SECOND], 3), told(ROWS[FIRST] + ROWS[SECOND], 3)),
     Step("check", PAST, ("check", "DIR"), "sound 3\n", "sound 3\n"),
 )
+
+
+def is_built(program: Path) -> bool:
+    """Whether the program is there. Where it isn't, standard error is told what makes it."""
+    if os.access(program, os.X_OK):
+        return True
+    print(f"there is no {program}: run 'make lake' first", file=sys.stderr)
+    return False
 
 
 class Program:

@@ -37,7 +37,7 @@ from gaps import try_gaps
 from large import try_large
 from others import NAMES, PATHS, THINGS, try_others
 from races import run_creates, run_race
-from steps import STEPS, Prepared, Program, disturbances, leftovers, prepare, try_one
+from steps import STEPS, Prepared, Program, disturbances, is_built, leftovers, prepare, try_one
 from traced import CannotTrace, Disturbance
 
 LAKE = Path(__file__).resolve().parents[2] / "crates" / "lake" / "out" / "lake"
@@ -100,8 +100,7 @@ def words() -> argparse.Namespace:
 
 def main() -> int:
     asked = words()
-    if not os.access(asked.program, os.X_OK):
-        print(f"there is no {asked.program}: run 'make lake' first", file=sys.stderr)
+    if not is_built(asked.program):
         return 2
     program, start = Program(asked.program.resolve()), time.monotonic()
     try:
